@@ -1,0 +1,5 @@
+-- What follows from the definitions of lag and gain.
+pub mod Lags
+pub mod Stars
+pub mod Gains
+pub mod Reach

@@ -1,0 +1,29 @@
+-- `rescale` computes the definition; a product of 5, 32 and 16 bits fits 64.
+use Prim.Native.Nat.{_*_, _≤_}
+use mathlib.Core.Path.{refl}
+use native.Mathlib.Nat.{mul-le-mul}
+use native.Mathlib.Omega.{arith}
+use Rattle.lag.specs.Lag.{rescaled}
+use borrow.Author.Needs.{needs}
+use Rattle.lag.proofs.rescale.rescale.Statement.{statement}
+use Rattle.lag.proofs.rescale.rescale.Tie as tie
+
+-- the product is far below 2 ^ 64
+small : (c : tie.Start) → 5 * c .args .r * c .args .quarters ≤ 5 * 4294967295 * 65535
+small c = mul-le-mul {n₂ = 5 * 4294967295} {m₂ = 65535} (omega arith) (omega arith)
+
+mul-p-up : tie.Need-mul-p-up
+mul-p-up c = search needs
+
+mul-p-up-2 : tie.Need-mul-p-up-2
+mul-p-up-2 c = omega (arith, small c)
+
+add-p-up : tie.Need-add-p-up
+add-p-up c = omega (arith, small c)
+
+returns : tie.Need-returns
+unfolding rescaled
+returns c = refl
+
+pub rescale-spec : {M : Type 1} → statement M
+rescale-spec = tie.close (tie.spec mul-p-up mul-p-up-2 add-p-up returns)

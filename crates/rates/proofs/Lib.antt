@@ -1,0 +1,2 @@
+-- Laws over the table of rates, for this crate and those above it.
+pub mod Rows

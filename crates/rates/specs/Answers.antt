@@ -1,0 +1,17 @@
+-- The answer numbers of document 01.
+use Prim.Native.Nat.{ℕ}
+use Rattle.rates.specs.declared.answer.Answer.{Answer}
+use Rattle.rates.specs.declared.answer.Answer.the-variants.{Done, UnknownRate, UnknownDuration, CoefficientCount, CoefficientNotFinite, SampleCount, TooManyBits, IndexTooLarge, SampleOutOfRange, UnfitState, MalformedLine}
+
+abbrev pub numberOf : Answer → ℕ
+numberOf Done = 0
+numberOf UnknownRate = 1
+numberOf UnknownDuration = 2
+numberOf CoefficientCount = 3
+numberOf CoefficientNotFinite = 4
+numberOf SampleCount = 5
+numberOf TooManyBits = 6
+numberOf IndexTooLarge = 7
+numberOf SampleOutOfRange = 8
+numberOf UnfitState = 9
+numberOf MalformedLine = 10
