@@ -1,0 +1,26 @@
+// 32-bit floats in slices: the test that both ends make of a lent coefficient set.
+ghost use mathlib.Core.Path.{_≡_};
+ghost use Rattle.floats.specs.Single.{finite, allFinite};
+
+// Whether x is a number: no infinity and no NaN.
+fn is_finite(x: f32) -> bool
+    ensures { λ r. ⌜ r ≡ finite x ⌝ }
+{
+    let infinity: f32 = 1.0 / 0.0;
+    if x < infinity {
+        return -infinity < x;
+    }
+    false
+}
+
+// Whether every entry of a slice is a number.
+pub fn all_finite(s: &[f32]) -> bool
+    ensures { λ r. ⌜ r ≡ allFinite (now (s .entry)) ⌝ }
+{
+    for i in 0..s.len() {
+        if !is_finite(s[i]) {
+            return false;
+        }
+    }
+    true
+}
