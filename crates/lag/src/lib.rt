@@ -1,4 +1,5 @@
-// Lag and gain: a pitch index as a lag, a lag as an index, and a frame's bits as a gain.
+// Lag and gain: the pitch record, an index as a lag and a lag as an index, and bits as a gain.
 pub mod gain;
 pub mod index;
+pub mod pitch;
 pub mod rescale;
