@@ -1,0 +1,3 @@
+-- Tab-parted text.
+pub mod Fields
+pub mod Decimal
