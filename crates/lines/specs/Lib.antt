@@ -1,3 +1,4 @@
 -- Tab-parted text.
 pub mod Fields
 pub mod Decimal
+pub mod Texts

@@ -1,0 +1,60 @@
+-- A line of 12 bytes or more is malformed: two fields of five bytes and a tab are eleven. So its first 12 bytes say it.
+use Prim.Native.Nat.{ℕ, _+_, _≤_, _<_}
+use mathlib.Core.Path.{_≡_, refl, sym, _∙_}
+use mathlib.Core.Bool.{Bool, true, false, cond}
+use mathlib.Core.List.{List, []}
+use native.Mathlib.Omega.{arith}
+use borrow.Author.Tests.{ne-eqb, le-leb, lt-leb, leb-true, leb-false, ltb-true}
+use lib.Dec.{leb, ltb}
+use lib.ListN.{length, take, drop, length-drop, length-take}
+use lib.Seq.{length-take-le, take-all}
+use Rattle.lines.specs.Fields.{tabAt, numberOf, fieldOf}
+use Rattle.lines.specs.declared.field.Field.{Field}
+use Rattle.lines.specs.declared.field.Number.{Number}
+use Rattle.rates.specs.declared.answer.Answer.{Answer}
+use Rattle.listing.specs.Rows.{answerTo, lookedUp, refusedRow}
+
+long-number : (s : List ℕ) → 5 < length s → numberOf 5 s ≡ Number.Malformed
+unfolding numberOf
+long-number s h = rw (le-leb 1 (length s) (omega arith), lt-leb (length s) 5 h)
+
+long-field : (s : List ℕ) → 5 < length s → fieldOf 5 s ≡ Field.Malformed
+long-field s h = rw (ne-eqb (length s) 1 (λ e. omega arith), long-number s h)
+
+no-index : (f : Field) → lookedUp f Field.Malformed ≡ refusedRow Answer.MalformedLine
+no-index Field.Dash = refl
+no-index (Field.Number n) = refl
+no-index Field.Malformed = refl
+
+-- with the tab at t, one of the two fields is longer than five bytes
+long-side : (s : List ℕ) (t : ℕ) → 12 ≤ length s → t < length s →
+    lookedUp (fieldOf 5 (take t s)) (fieldOf 5 (drop (t + 1) s)) ≡ refusedRow Answer.MalformedLine
+long-side s t h k = go (leb t 5) refl
+  where
+    go : (b : Bool) → leb t 5 ≡ b → lookedUp (fieldOf 5 (take t s)) (fieldOf 5 (drop (t + 1) s)) ≡ refusedRow Answer.MalformedLine
+    go true p =
+        let l : 5 < length (drop (t + 1) s) = simp length-drop (omega (arith, leb-true t 5 p)) in
+        rw (long-field (drop (t + 1) s) l) (no-index (fieldOf 5 (take t s)))
+    go false p =
+        let l : 5 < length (take t s) = rw (length-take-le t s (omega arith)) (leb-false t 5 p) in
+        rw (long-field (take t s) l)
+
+long-line : (s : List ℕ) → 12 ≤ length s → answerTo s ≡ refusedRow Answer.MalformedLine
+unfolding answerTo
+long-line s h = go (ltb (tabAt s) (length s)) refl
+  where
+    go : (b : Bool) → ltb (tabAt s) (length s) ≡ b →
+        cond b (lookedUp (fieldOf 5 (take (tabAt s) s)) (fieldOf 5 (drop (tabAt s + 1) s))) (refusedRow Answer.MalformedLine) ≡
+        refusedRow Answer.MalformedLine
+    go true p = long-side s (tabAt s) h (ltb-true _ _ p)
+    go false p = refl
+
+-- the first 12 bytes of a line are answered as the line is
+pub first-twelve : (s : List ℕ) → answerTo (take 12 s) ≡ answerTo s
+first-twelve s = go (leb (length s) 12) refl
+  where
+    go : (b : Bool) → leb (length s) 12 ≡ b → answerTo (take 12 s) ≡ answerTo s
+    go true p = rw (take-all 12 s (leb-true _ _ p))
+    go false p =
+        let l : 12 < length s = leb-false (length s) 12 p in
+        long-line (take 12 s) (rw (length-take-le 12 s (omega arith)) (omega arith)) ∙ sym (long-line s (omega arith))

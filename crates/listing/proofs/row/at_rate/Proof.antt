@@ -1,0 +1,81 @@
+-- `at_rate` goes by the index field, and then by the rate.
+use borrow.Author.Needs.{needs}
+use Rattle.listing.proofs.row.at_rate.Statement.{statement}
+use Rattle.listing.proofs.row.at_rate.Tie as tie
+
+enum-told : tie.Need-enum-told
+enum-told c = search needs
+
+row-of-requires : tie.Need-row-of-requires
+row-of-requires c κs = search needs
+
+enum-told-2 : tie.Need-enum-told-2
+enum-told-2 c = search needs
+
+enum-told-3 : tie.Need-enum-told-3
+enum-told-3 c = search needs
+
+refused-row-requires : tie.Need-refused-row-requires
+refused-row-requires c κs = search needs
+
+enum-known-index : tie.Need-enum-known-index
+enum-known-index c = search needs
+
+row-of-requires-2 : tie.Need-row-of-requires-2
+row-of-requires-2 c κs = search needs
+
+enum-known-fs : tie.Need-enum-known-fs
+enum-known-fs c = search needs
+
+lag-row-requires : tie.Need-lag-row-requires
+lag-row-requires c κs = search needs
+
+enum-told-4 : tie.Need-enum-told-4
+enum-told-4 c = search needs
+
+refused-row-requires-2 : tie.Need-refused-row-requires-2
+refused-row-requires-2 c κs = search needs
+
+enum-told-5 : tie.Need-enum-told-5
+enum-told-5 c = search needs
+
+refused-row-requires-3 : tie.Need-refused-row-requires-3
+refused-row-requires-3 c κs = search needs
+
+returns : tie.Need-returns
+returns c = rw (c .before .before .before .enum-told .given .1, ← c .before .before .row-of .ensures, c .enum-told2 .given .1)
+
+returns-2 : tie.Need-returns-2
+returns-2 c = rw (c .refused-row .ensures, c .before .before .before .before .enum-told .given .1, ← c .before .before .before .row-of .ensures, c .before .enum-told3 .given .1)
+
+returns-3 : tie.Need-returns-3
+returns-3 c = rw (c .lag-row .ensures, c .before .before .before .before .before .before .index .given .1, ← c .before .before .before .before .row-of2 .ensures, c .before .before .fs .given .1)
+
+returns-4 : tie.Need-returns-4
+returns-4 c = rw (c .refused-row2 .ensures, c .before .before .before .before .before .index .given .1, ← c .before .before .before .row-of2 .ensures, c .before .enum-told4 .given .1)
+
+returns-5 : tie.Need-returns-5
+returns-5 c = rw (c .refused-row3 .ensures, c .before .enum-told5 .given .1)
+
+pub at-rate-spec : {M : Type 1} → statement M
+at-rate-spec =
+    tie.close
+    (tie.spec
+    enum-told
+    row-of-requires
+    enum-told-2
+    enum-told-3
+    refused-row-requires
+    enum-known-index
+    row-of-requires-2
+    enum-known-fs
+    lag-row-requires
+    enum-told-4
+    refused-row-requires-2
+    enum-told-5
+    refused-row-requires-3
+    returns
+    returns-2
+    returns-3
+    returns-4
+    returns-5)

@@ -1,0 +1,45 @@
+-- `look_up` goes by the rate field.
+use borrow.Author.Needs.{needs}
+use Rattle.listing.proofs.row.look_up.Statement.{statement}
+use Rattle.listing.proofs.row.look_up.Tie as tie
+
+enum-told : tie.Need-enum-told
+enum-told c = search needs
+
+at-rate-requires : tie.Need-at-rate-requires
+at-rate-requires c κs = search needs
+
+enum-known-rate : tie.Need-enum-known-rate
+enum-known-rate c = search needs
+
+at-rate-requires-2 : tie.Need-at-rate-requires-2
+at-rate-requires-2 c κs = search needs
+
+enum-told-2 : tie.Need-enum-told-2
+enum-told-2 c = search needs
+
+refused-row-requires : tie.Need-refused-row-requires
+refused-row-requires c κs = search needs
+
+returns : tie.Need-returns
+returns c = rw (c .at-rate .ensures, c .before .enum-told .given .1)
+
+returns-2 : tie.Need-returns-2
+returns-2 c = rw (c .at-rate2 .ensures, c .before .before .rate .given .1)
+
+returns-3 : tie.Need-returns-3
+returns-3 c = rw (c .refused-row .ensures, c .before .enum-told2 .given .1)
+
+pub look-up-spec : {M : Type 1} → statement M
+look-up-spec =
+    tie.close
+    (tie.spec
+    enum-told
+    at-rate-requires
+    enum-known-rate
+    at-rate-requires-2
+    enum-told-2
+    refused-row-requires
+    returns
+    returns-2
+    returns-3)

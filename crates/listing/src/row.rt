@@ -1,0 +1,149 @@
+// One line of the listing: what a line of input asks, and the row that answers it.
+use lag::rescale::FoundLag;
+use lag::rescale::Lag;
+use lag::rescale::compute_filter_parameters;
+use lines::decimal::put_number;
+use lines::field::Field;
+use lines::field::first_tab;
+use lines::field::read_field;
+use rates::answer::Answer;
+use rates::answer::number;
+use rates::table::FoundRate;
+use rates::table::Rate;
+use rates::table::row_of;
+ghost use mathlib.Core.Path.{_≡_};
+ghost use Prim.Native.Nat.{_+_, _≤_};
+ghost use lib.ListN.{length};
+ghost use Rattle.lines.specs.Texts.{Written};
+ghost use Rattle.listing.specs.Rows.{refusedRow, lagRow, atRate, lookedUp, answerTo};
+ghost use Rattle.listing.specs.Rows.{cell, dashCell, shownText, rowText};
+
+// The lag that a row shows: dashes where there is none.
+pub enum Shown {
+    Dashes,
+    Lag(Lag),
+}
+
+pub struct Row {
+    pub answer: Answer,
+    pub lag: Shown,
+}
+
+fn refused_row(answer: Answer) -> Row
+    ensures { λ r. ⌜ r ≡ refusedRow answer ⌝ }
+{
+    Row {
+        answer,
+        lag: Shown::Dashes,
+    }
+}
+
+// The row of an index at a rate.
+fn lag_row(fs: Rate, pitch_index: u32) -> Row
+    ensures { λ r. ⌜ r ≡ lagRow fs «pitch_index» ⌝ }
+{
+    match compute_filter_parameters(fs, pitch_index) {
+        FoundLag::Lag(lag) => Row {
+            answer: Answer::Done,
+            lag: Shown::Lag(lag),
+        },
+        FoundLag::IndexTooLarge => refused_row(Answer::IndexTooLarge),
+    }
+}
+
+// The row of a rate in Hz and an index field: a malformed index comes before an unknown rate.
+fn at_rate(hz: u32, index: Field) -> Row
+    ensures { λ r. ⌜ r ≡ atRate hz index ⌝ }
+{
+    match index {
+        Field::Dash => match row_of(hz) {
+            FoundRate::Row(_) => Row {
+                answer: Answer::Done,
+                lag: Shown::Dashes,
+            },
+            FoundRate::Unknown => refused_row(Answer::UnknownRate),
+        },
+        Field::Number(pitch_index) => match row_of(hz) {
+            FoundRate::Row(fs) => lag_row(fs, pitch_index),
+            FoundRate::Unknown => refused_row(Answer::UnknownRate),
+        },
+        Field::Malformed => refused_row(Answer::MalformedLine),
+    }
+}
+
+// The row of a rate field, where a dash means 48000, and an index field.
+fn look_up(rate: Field, index: Field) -> Row
+    ensures { λ r. ⌜ r ≡ lookedUp rate index ⌝ }
+{
+    match rate {
+        Field::Dash => at_rate(48000, index),
+        Field::Number(hz) => at_rate(hz, index),
+        Field::Malformed => refused_row(Answer::MalformedLine),
+    }
+}
+
+// The row that answers a line, given without its newline.
+pub fn answer_line(line: &[u8]) -> Row
+    ensures { λ r. ⌜ r ≡ answerTo (now (line .entry)) ⌝ }
+{
+    let tab = first_tab(line);
+    if tab >= line.len() {
+        return refused_row(Answer::MalformedLine);
+    }
+    let rate = read_field(&line[..tab], 5);
+    let index = read_field(&line[tab + 1..], 5);
+    look_up(rate, index)
+}
+
+// A number, and the byte that ends its cell.
+fn put_cell(out: &mut [u8], at: usize, n: u64, end: u8) -> usize
+    requires { ⌜ at + 21 ≤ length (now out) ⌝ }
+    ensures { λ r. ⌜ Written (now (out .entry)) at (cell n end) (now (out .exit)) r ⌝ }
+    ensures { λ r. ⌜ r ≤ at + 21 ⌝ }
+{
+    let next = put_number(out, at, n);
+    out[next] = end;
+    next + 1
+}
+
+// A dash, and the byte that ends its cell.
+fn put_dash(out: &mut [u8], at: usize, end: u8) -> usize
+    requires { ⌜ at + 2 ≤ length (now out) ⌝ }
+    ensures { λ r. ⌜ Written (now (out .entry)) at (dashCell end) (now (out .exit)) r ⌝ }
+    ensures { λ r. ⌜ r ≤ at + 2 ⌝ }
+{
+    out[at] = b'-';
+    out[at + 1] = end;
+    at + 2
+}
+
+// The two cells of a lag.
+fn put_shown(out: &mut [u8], at: usize, lag: Shown) -> usize
+    requires { ⌜ at + 42 ≤ length (now out) ⌝ }
+    ensures { λ r. ⌜ Written (now (out .entry)) at (shownText lag) (now (out .exit)) r ⌝ }
+    ensures { λ r. ⌜ r ≤ at + 42 ⌝ }
+{
+    match lag {
+        Shown::Dashes => {
+            let next = put_dash(out, at, b'\t');
+            put_dash(out, next, b'\t')
+        }
+        Shown::Lag(l) => {
+            let next = put_cell(out, at, l.whole as u64, b'\t');
+            put_cell(out, next, l.quarter as u64, b'\t')
+        }
+    }
+}
+
+// A row's text, with the number of its line in front.
+pub(crate) fn put_row(out: &mut [u8], at: usize, line: u64, row: Row) -> usize
+    requires { ⌜ at + 84 ≤ length (now out) ⌝ }
+    ensures { λ r. ⌜ Written (now (out .entry)) at (rowText line row) (now (out .exit)) r ⌝ }
+    ensures { λ r. ⌜ r ≤ at + 84 ⌝ }
+{
+    let lag = row.lag;
+    let answer = row.answer;
+    let after_line = put_cell(out, at, line, b'\t');
+    let after_lag = put_shown(out, after_line, lag);
+    put_cell(out, after_lag, number(answer), b'\n')
+}
