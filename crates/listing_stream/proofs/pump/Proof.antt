@@ -1,0 +1,105 @@
+-- `pump` goes on until all of its input is taken: each turn takes at least a byte.
+use Prim.Native.Nat.{_+_, _-_, _≤_, _<_}
+use mathlib.Core.Path.{_≡_, refl, sym, _∙_}
+use mathlib.Core.Bool.{true≢false}
+use mathlib.Core.List.{_++_}
+use native.Mathlib.Omega.{arith}
+use borrow.Author.Needs.{needs}
+use lib.ListN.{length, take, drop, length-drop}
+use lib.Seq.{length-take-le, take-add, take-take, take-all}
+use Rattle.lines.proofs.Stores.{written-length}
+use Rattle.listing.specs.Machine.{after}
+use Rattle.listing.proofs.Cuts.{after-append}
+use Rattle.listing_stream.proofs.pump.Statement.{statement}
+use Rattle.listing_stream.proofs.pump.Tie as tie
+
+abbrev Inv-loop : tie.InvT-loop
+Inv-loop input out₀ listing₀ at₀ out listing at = (at ≤ length input) × (length out ≡ length out₀) × (listing ≡ after listing₀ (take at input))
+
+abbrev μ-loop : tie.MeasureT-loop
+μ-loop input out₀ listing₀ at₀ out listing at = length input - at
+
+loop-holds : tie.Need-loop-holds Inv-loop μ-loop
+unfolding after
+loop-holds c = search needs
+
+sub-feed : tie.Need-sub-feed Inv-loop μ-loop
+sub-feed c = search needs
+
+part-feed-start : tie.Need-part-feed-start Inv-loop μ-loop
+part-feed-start c = search needs
+
+part-feed-end : tie.Need-part-feed-end Inv-loop μ-loop
+part-feed-end c = search needs
+
+feed-requires : tie.Need-feed-requires Inv-loop μ-loop
+feed-requires c κs = search needs
+
+same-length : tie.Need-same-length Inv-loop μ-loop
+same-length c = search needs
+
+returns : tie.Need-returns Inv-loop μ-loop
+returns c = λ e. absurd (true≢false e)
+
+add-at : tie.Need-add-at Inv-loop μ-loop
+add-at c = search needs
+
+slice-reshare-prefix-write-out : tie.Need-slice-reshare-prefix-write-out Inv-loop μ-loop
+slice-reshare-prefix-write-out c = search needs
+
+slice-aggregate-write-out : tie.Need-slice-aggregate-write-out Inv-loop μ-loop
+slice-aggregate-write-out c = sym (length-take-le _ _ (omega arith))
+
+write-out-requires : tie.Need-write-out-requires Inv-loop μ-loop
+write-out-requires c κs = search needs
+
+same-length-2 : tie.Need-same-length-2 Inv-loop μ-loop
+same-length-2 c = search needs
+
+returns-2 : tie.Need-returns-2 Inv-loop μ-loop
+returns-2 c = λ e. absurd (true≢false e)
+
+loop-less : tie.Need-loop-less Inv-loop μ-loop
+loop-less c = search needs
+
+loop-again : tie.Need-loop-again Inv-loop μ-loop
+loop-again c =
+    let l = c .before .before .before .before .before .before .before .before .before .before .before .before .before .before .before .before .args .input .now in
+    let at = c .before .before .before .before .before .before .before .before .before .before .before .before .before .loop .at in
+    let used = c .before .before .before .before .before .before .before .before .before .feed .result .used in
+    let fed = c .before .before .before .before .before .before .before .before .before .feed .ensures in
+    let size : length (take (length l - at) (drop at l)) ≡ length l - at =
+    length-take-le (length l - at) (drop at l) (simp length-drop (omega arith)) in
+    let part : take used (take (length l - at) (drop at l)) ≡ take used (drop at l) =
+    take-take used (length l - at) (drop at l) (omega arith) in
+    (omega arith, search needs, rw (take-add at used l, after-append, ← c .before .before .before .before .before .before .before .before .before .before .before .before .before .loop .inv .2, ← part) (fed .1 .0))
+
+same-length-3 : tie.Need-same-length-3 Inv-loop μ-loop
+same-length-3 c = search needs
+
+returns-3 : tie.Need-returns-3 Inv-loop μ-loop
+returns-3 c = λ _. c .before .loop .inv .2 ∙ rw (take-all (c .before .loop .at) (c .before .before .before .before .args .input .now) (omega arith))
+
+pub pump-spec : {M : Type 1} → statement M
+pump-spec =
+    tie.close
+    (tie.spec
+    Inv-loop
+    μ-loop
+    loop-holds
+    sub-feed
+    part-feed-start
+    part-feed-end
+    feed-requires
+    same-length
+    returns
+    add-at
+    slice-reshare-prefix-write-out
+    slice-aggregate-write-out
+    write-out-requires
+    same-length-2
+    returns-2
+    loop-less
+    loop-again
+    same-length-3
+    returns-3)
