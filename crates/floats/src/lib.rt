@@ -1,4 +1,6 @@
-// 32-bit floats in slices: the test that both ends make of a lent coefficient set.
+// 32-bit floats: the test that both ends make of a lent set, and bit patterns with one NaN.
+pub mod bits;
+
 ghost use mathlib.Core.Path.{_≡_};
 ghost use Rattle.floats.specs.Single.{finite, allFinite};
 

@@ -1,6 +1,8 @@
 // Roots of many floats, written as bit patterns to be compared with another implementation's.
 // `root_run spread` takes 104,693 inputs from all exponents, `root_run whole` all 2 * 8,388,608
 // significands of the exponents 0 and 1, and `root_run every` all 4,294,967,296 patterns.
+use floats::bits::bits_of;
+use floats::bits::float_of;
 use libc::STDERR_FILENO;
 use libc::STDOUT_FILENO;
 use root::Root;
@@ -93,18 +95,10 @@ fn input(inputs: Inputs, i: u64) -> u32 {
     }
 }
 
-// The float with the pattern b. A NaN is computed, since it has no pattern of its own.
-fn float_of(b: u32) -> f32 {
-    if 0x7f80_0000 < b % 0x8000_0000 {
-        return 0.0 / 0.0;
-    }
-    f32::from_bits(b)
-}
-
 // The pattern of the root of the float with the pattern b, or NONE.
 fn root_pattern(b: u32) -> u32 {
     match root::sqrt(float_of(b)) {
-        Root::Root(v) => f32::to_bits(v),
+        Root::Root(v) => bits_of(v),
         Root::NoRoot => NONE,
     }
 }
