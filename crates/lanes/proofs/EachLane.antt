@@ -1,0 +1,82 @@
+-- Each of the eight sums is what a sum by itself would be, with its own samples in its own order.
+use Prim.Native.Nat.{ℕ, zero, suc, _+_, _-_, _≤_, _<_}
+use mathlib.Core.Path.{_≡_, refl, sym, _∙_}
+use mathlib.Core.List.{List}
+use native.Mathlib.Nat.{add-zero}
+use native.Mathlib.Omega.{arith}
+use borrow.Author.Tests.{le-leb}
+use lib.Ieee.{Float}
+use lib.ListN.{length}
+use Rattle.floats.specs.Single.{_⊕_, _⊖_, _⊗_, at}
+use Rattle.lanes.specs.Lanes.{all, plus, minus, steps, firAdded, firTaken, correlated, Lane, l0, l1, l2, l3, l4, l5, l6, l7, place, lane, added, taken}
+use Rattle.lanes.specs.declared.Lanes.{Lanes}
+
+pub lane-all : (j : Lane) (v : Float) → lane j (all v) ≡ v
+lane-all l0 v = refl
+lane-all l1 v = refl
+lane-all l2 v = refl
+lane-all l3 v = refl
+lane-all l4 v = refl
+lane-all l5 v = refl
+lane-all l6 v = refl
+lane-all l7 v = refl
+
+lane-plus : (j : Lane) (s : Lanes) (c : Float) (x : List Float) (i : ℕ) → lane j (plus s c x i) ≡ lane j s ⊕ c ⊗ at x (i + place j)
+lane-plus l0 s c x i = rw add-zero
+lane-plus l1 s c x i = refl
+lane-plus l2 s c x i = refl
+lane-plus l3 s c x i = refl
+lane-plus l4 s c x i = refl
+lane-plus l5 s c x i = refl
+lane-plus l6 s c x i = refl
+lane-plus l7 s c x i = refl
+
+lane-minus : (j : Lane) (s : Lanes) (c : Float) (x : List Float) (i : ℕ) → lane j (minus s c x i) ≡ lane j s ⊖ c ⊗ at x (i + place j)
+lane-minus l0 s c x i = rw add-zero
+lane-minus l1 s c x i = refl
+lane-minus l2 s c x i = refl
+lane-minus l3 s c x i = refl
+lane-minus l4 s c x i = refl
+lane-minus l5 s c x i = refl
+lane-minus l6 s c x i = refl
+lane-minus l7 s c x i = refl
+
+module _ (j : Lane) (s : Lanes) (c x : List Float) (i : ℕ) where
+  falling-added : (n : ℕ) → n ≤ i + 1 →
+      lane j (steps (λ t k. plus t (at c k) x (i - k)) s n) ≡ added (λ k. at c k ⊗ at x (i + place j - k)) (lane j s) n
+  unfolding steps added
+  falling-added zero l = refl
+  falling-added (suc n) l =
+      let e : i - n + place j ≡ i + place j - n = omega arith in
+      lane-plus j (steps (λ t k. plus t (at c k) x (i - k)) s n) (at c n) x (i - n) ∙ rw (falling-added n (omega arith), e)
+
+  falling-taken : (n : ℕ) → n ≤ i + 1 →
+      lane j (steps (λ t k. minus t (at c k) x (i - k)) s n) ≡ taken (λ k. at c k ⊗ at x (i + place j - k)) (lane j s) n
+  unfolding steps taken
+  falling-taken zero l = refl
+  falling-taken (suc n) l =
+      let e : i - n + place j ≡ i + place j - n = omega arith in
+      lane-minus j (steps (λ t k. minus t (at c k) x (i - k)) s n) (at c n) x (i - n) ∙ rw (falling-taken n (omega arith), e)
+
+  rising-added : (n : ℕ) →
+      lane j (steps (λ t m. plus t (at c m) x (i + m)) s n) ≡ added (λ m. at c m ⊗ at x (i + m + place j)) (lane j s) n
+  unfolding steps added
+  rising-added zero = refl
+  rising-added (suc n) =
+      lane-plus j (steps (λ t m. plus t (at c m) x (i + m)) s n) (at c n) x (i + n) ∙ rw (rising-added n)
+
+  -- where x holds all samples, the eight sums are eight sums
+  pub fir-added : i + 8 ≤ length x → length c ≤ i + 1 →
+      lane j (firAdded s c x i) ≡ added (λ k. at c k ⊗ at x (i + place j - k)) (lane j s) (length c)
+  unfolding firAdded
+  fir-added p q = rw (le-leb (i + 8) (length x) p, le-leb (length c) (i + 1) q) (falling-added (length c) q)
+
+  pub fir-taken : i + 8 ≤ length x → length c ≤ i + 1 →
+      lane j (firTaken s c x i) ≡ taken (λ k. at c k ⊗ at x (i + place j - k)) (lane j s) (length c)
+  unfolding firTaken
+  fir-taken p q = rw (le-leb (i + 8) (length x) p, le-leb (length c) (i + 1) q) (falling-taken (length c) q)
+
+  pub correlation-added : i + 8 ≤ length x → i + length c + 7 ≤ length x →
+      lane j (correlated s c x i) ≡ added (λ m. at c m ⊗ at x (i + m + place j)) (lane j s) (length c)
+  unfolding correlated
+  correlation-added p q = rw (le-leb (i + 8) (length x) p, le-leb (i + length c + 7) (length x) q) (rising-added (length c))

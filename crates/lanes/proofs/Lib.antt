@@ -1,0 +1,2 @@
+-- Each of the eight sums is a sum by itself.
+pub mod EachLane

@@ -1,0 +1,93 @@
+-- Eight sums side by side: sum j of a step takes the sample j places behind the first sum's.
+use Prim.Native.Nat.{ℕ, zero, suc, _+_, _-_}
+use mathlib.Core.Bool.{Bool, cond, _&&_}
+use mathlib.Core.List.{List}
+use lib.Dec.{leb}
+use lib.Ieee.{Float}
+use lib.ListN.{length}
+use Rattle.floats.specs.Single.{_⊕_, _⊖_, _⊗_, at}
+use Rattle.lanes.specs.declared.Lanes.{Lanes}
+
+abbrev pub all : Float → Lanes
+all v = record { s0 = v; s1 = v; s2 = v; s3 = v; s4 = v; s5 = v; s6 = v; s7 = v }
+
+-- c times the samples from i on, added
+abbrev pub plus : Lanes → Float → List Float → ℕ → Lanes
+plus s c x i = record {
+  s0 = s .s0 ⊕ c ⊗ at x i;
+  s1 = s .s1 ⊕ c ⊗ at x (i + 1);
+  s2 = s .s2 ⊕ c ⊗ at x (i + 2);
+  s3 = s .s3 ⊕ c ⊗ at x (i + 3);
+  s4 = s .s4 ⊕ c ⊗ at x (i + 4);
+  s5 = s .s5 ⊕ c ⊗ at x (i + 5);
+  s6 = s .s6 ⊕ c ⊗ at x (i + 6);
+  s7 = s .s7 ⊕ c ⊗ at x (i + 7);
+}
+
+-- and subtracted
+abbrev pub minus : Lanes → Float → List Float → ℕ → Lanes
+minus s c x i = record {
+  s0 = s .s0 ⊖ c ⊗ at x i;
+  s1 = s .s1 ⊖ c ⊗ at x (i + 1);
+  s2 = s .s2 ⊖ c ⊗ at x (i + 2);
+  s3 = s .s3 ⊖ c ⊗ at x (i + 3);
+  s4 = s .s4 ⊖ c ⊗ at x (i + 4);
+  s5 = s .s5 ⊖ c ⊗ at x (i + 5);
+  s6 = s .s6 ⊖ c ⊗ at x (i + 6);
+  s7 = s .s7 ⊖ c ⊗ at x (i + 7);
+}
+
+-- a step for each of the first n numbers: the sums so far, the number, the step's place
+unfoldable pub steps : (Lanes → ℕ → Lanes) → Lanes → ℕ → Lanes
+steps step s zero = s
+steps step s (suc n) = step (steps step s n) n
+
+-- all samples from i − k to i + 7 are there
+abbrev pub firInside : List Float → List Float → ℕ → Bool
+firInside c x i = leb (i + 8) (length x) && leb (length c) (i + 1)
+
+unfoldable pub firAdded : Lanes → List Float → List Float → ℕ → Lanes
+unfolding steps
+firAdded s c x i = cond (firInside c x i) (steps (λ t k. plus t (at c k) x (i - k)) s (length c)) s
+
+unfoldable pub firTaken : Lanes → List Float → List Float → ℕ → Lanes
+unfolding steps
+firTaken s c x i = cond (firInside c x i) (steps (λ t k. minus t (at c k) x (i - k)) s (length c)) s
+
+unfoldable pub correlated : Lanes → List Float → List Float → ℕ → Lanes
+unfolding steps
+correlated s a x i =
+    cond (leb (i + 8) (length x) && leb (i + length a + 7) (length x)) (steps (λ t n. plus t (at a n) x (i + n)) s (length a)) s
+
+-- one of the eight, its place, and its sum
+pub data Lane : Type 0 where
+  l0 l1 l2 l3 l4 l5 l6 l7 : Lane
+
+abbrev pub place : Lane → ℕ
+place l0 = 0
+place l1 = 1
+place l2 = 2
+place l3 = 3
+place l4 = 4
+place l5 = 5
+place l6 = 6
+place l7 = 7
+
+abbrev pub lane : Lane → Lanes → Float
+lane l0 s = s .s0
+lane l1 s = s .s1
+lane l2 s = s .s2
+lane l3 s = s .s3
+lane l4 s = s .s4
+lane l5 s = s .s5
+lane l6 s = s .s6
+lane l7 s = s .s7
+
+-- a sum that adds the first n terms to its start, and one that subtracts them
+unfoldable pub added : (ℕ → Float) → Float → ℕ → Float
+added term start zero = start
+added term start (suc n) = added term start n ⊕ term n
+
+unfoldable pub taken : (ℕ → Float) → Float → ℕ → Float
+taken term start zero = start
+taken term start (suc n) = taken term start n ⊖ term n
