@@ -1,0 +1,93 @@
+-- The ring's two laws: straightening gives the past, and storing a frame moves the past along by that frame.
+use Prim.Native.Nat.{ℕ, _+_, _-_, _≤_}
+use mathlib.Core.Path.{_≡_, refl, _∙_, ap}
+use mathlib.Core.Bool.{Bool, true, false, cond}
+use mathlib.Core.List.{List, _++_, append-assoc, append-nil}
+use native.Mathlib.Nat.{sub-zero}
+use native.Mathlib.Omega.{arith}
+use borrow.Author.Tests.{eqb-true}
+use lib.Dec.{eqb}
+use lib.ListN.{length, take, drop, length-append, length-take, length-drop}
+use lib.Seq.{take-at, drop-at, take-add, drop-drop, drop-append-le, length-take-le}
+use lib.Ieee.{Float}
+use Rattle.decoder.specs.Ring.{straight, stored, nextBlock}
+
+module _ (l block : List Float) (start end : ℕ) (e : start + length block ≡ end) (h : end ≤ length l) where
+  front-long : length (take start l ++ block) ≡ end
+  front-long = length-append (take start l) block ∙ rw (length-take-le start l (omega arith), e)
+
+  -- up to the block's end a stored list is what lay before the block, and the block
+  pub take-stored : take end (stored l start block) ≡ take start l ++ block
+  unfolding stored
+  take-stored = take-at (take start l ++ block) _ end front-long
+
+  -- behind it the list is as it was
+  pub drop-stored : drop end (stored l start block) ≡ drop end l
+  unfolding stored
+  drop-stored = rw e (drop-at (take start l ++ block) _ end front-long)
+
+  pub length-stored : length (stored l start block) ≡ length l
+  unfolding stored
+  length-stored = simp (length-append, length-drop) (omega (arith, length-take-le start l (omega arith)))
+
+-- the line that `straighten` fills, part by part, from the ring and the frame
+pub straightened : (line line₁ line₂ line₃ ring frame : List Float) (history start : ℕ) →
+    start ≤ history → history ≤ length ring → history + length frame ≤ length line →
+    line₁ ≡ stored line 0 (take (history - start) (drop start ring)) →
+    line₂ ≡ stored line₁ (history - start) (take start ring) →
+    line₃ ≡ stored line₂ history frame →
+    take (history + length frame) line₃ ≡ straight ring history start ++ frame
+unfolding straight
+straightened line line₁ line₂ line₃ ring frame history start s r h e₁ e₂ e₃ =
+    let older = take (history - start) (drop start ring) in
+    let newer = take start ring in
+    let long : length older ≡ history - start = length-take-le (history - start) (drop start ring) (simp length-drop (omega arith)) in
+    let all : history - start + length newer ≡ history = omega (arith, length-take-le start ring (omega arith)) in
+    let long₁ : length line₁ ≡ length line = ap length e₁ ∙ length-stored line older 0 (history - start) (omega arith) (omega arith) in
+    let long₂ : length line₂ ≡ length line = ap length e₂ ∙ length-stored line₁ newer (history - start) history all (omega arith) ∙ long₁ in
+    rw (
+      e₃,
+      take-stored line₂ frame history (history + length frame) refl (omega arith),
+      e₂,
+      take-stored line₁ newer (history - start) history all (omega arith),
+      e₁,
+      take-stored line older 0 (history - start) (omega arith) (omega arith),
+    )
+
+-- a part behind the first n entries
+drop-take : (n k : ℕ) (l : List Float) → n ≤ length l → drop n (take (n + k) l) ≡ take k (drop n l)
+drop-take n k l h = rw take-add (drop-at (take n l) _ n (length-take-le n l h))
+
+-- storing gives the past moved along by a frame
+pub past-moves-along : (ring frame : List Float) (history nf start : ℕ) →
+    length frame ≡ nf → start + nf ≤ history → history ≤ length ring →
+    straight (stored ring start frame) history (nextBlock history nf start) ≡ drop nf (straight ring history start ++ frame)
+unfolding straight
+past-moves-along ring frame history nf start e s h = go (eqb (start + nf) history) refl
+  where
+    end : start + length frame ≡ start + nf
+    end = omega arith
+
+    part : drop nf (take (history - start) (drop start ring)) ≡ take (history - (start + nf)) (drop (start + nf) ring)
+    part =
+        let k : history - start ≡ nf + (history - (start + nf)) = omega arith in
+        rw (k, ← drop-drop nf start ring) (drop-take nf (history - (start + nf)) (drop start ring) (simp length-drop (omega arith)))
+
+    moved : drop nf (take (history - start) (drop start ring) ++ take start ring ++ frame) ≡
+        take (history - (start + nf)) (drop (start + nf) ring) ++ (take start ring ++ frame)
+    moved =
+        rw (
+          append-assoc (take (history - start) (drop start ring)) (take start ring) frame,
+          drop-append-le nf (take (history - start) (drop start ring)) (take start ring ++ frame)
+              (simp (length-take, length-drop) (omega arith)),
+          part,
+        )
+
+    go : (b : Bool) → eqb (start + nf) history ≡ b →
+        straight (stored ring start frame) history (cond b 0 (start + nf)) ≡ drop nf (straight ring history start ++ frame)
+    go true p =
+        let all : start + nf ≡ history = eqb-true (start + nf) history p in
+        let none : history - (start + nf) ≡ 0 = omega arith in
+        rw (moved, none, append-nil, sub-zero) (take-stored ring frame start history (omega arith) h)
+    go false p =
+        rw (moved, take-stored ring frame start (start + nf) end (omega arith), drop-stored ring frame start (start + nf) end (omega arith))

@@ -1,0 +1,15 @@
+// The decoder of the long-term post filter: coefficients, filter, fades, five transitions, ring, state, start, frame and
+// loss mark.
+mod accept;
+mod advance;
+mod coefficients;
+mod fade;
+mod filter;
+mod fitness;
+pub mod frame;
+mod in_range;
+mod lent;
+mod pitch;
+mod ring;
+pub mod state;
+mod transition;

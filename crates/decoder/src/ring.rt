@@ -1,0 +1,54 @@
+// The ring that holds the used history in blocks of a frame: read straight, oldest first, and stored into.
+ghost use mathlib.Core.Path.{_≡_};
+ghost use mathlib.Core.List.{_++_};
+ghost use Prim.Native.Nat.{_+_, _≤_};
+ghost use lib.ListN.{length, take};
+ghost use Rattle.decoder.specs.Ring.{straight, stored, nextBlock};
+
+// Copies a block into a slice, from the place given.
+pub fn put(into: &mut [f32], at: usize, block: &[f32])
+    requires { ⌜ at + length (now block) ≤ length (now into) ⌝ }
+    ensures { λ _. ⌜ now (into .exit) ≡ stored (now (into .entry)) at (now (block .entry)) ⌝ }
+{
+    for i in 0..block.len() {
+        into[at + i] = block[i];
+    }
+}
+
+// The past, oldest sample first, with a frame behind it.
+pub fn straighten(
+    ring: &[f32],
+    history: usize,
+    block_start_index: usize,
+    frame: &[f32],
+) -> [f32; 1440]
+    requires { ⌜ («block_start_index» ≤ history) × (history ≤ length (now ring)) × (history + length (now frame) ≤ 1440) ⌝ }
+    ensures { λ r. ⌜ take (history + length (now (frame .entry))) r ≡ straight (now (ring .entry)) history «block_start_index» ++ now (frame .entry) ⌝ }
+{
+    let mut line = [0.0; 1440];
+    put(&mut line, 0, &ring[block_start_index..history]);
+    put(
+        &mut line,
+        history - block_start_index,
+        &ring[..block_start_index],
+    );
+    put(&mut line, history, frame);
+    line
+}
+
+// Stores a frame into its block.
+pub fn store(ring: &mut [f32; 1080], block_start_index: usize, frame: &[f32])
+    requires { ⌜ «block_start_index» + length (now frame) ≤ 1080 ⌝ }
+    ensures { λ _. ⌜ now (ring .exit) ≡ stored (now (ring .entry)) «block_start_index» (now (frame .entry)) ⌝ }
+{
+    put(ring, block_start_index, frame);
+}
+
+// Where the next block starts: behind this one, or at the front again.
+pub fn next_block(history: usize, nf: usize, block_start_index: usize) -> usize
+    requires { ⌜ «block_start_index» + nf ≤ 1440 ⌝ }
+    ensures { λ r. ⌜ r ≡ nextBlock history nf «block_start_index» ⌝ }
+{
+    let next = block_start_index + nf;
+    if next == history { 0 } else { next }
+}

@@ -1,0 +1,119 @@
+// The five transitions from one frame to the next.
+use crate::coefficients::Taps;
+use crate::fade::Direction;
+use crate::fade::filter_fade;
+use crate::fade::filter_rest;
+use crate::ring::put;
+use lag::rescale::Lag;
+ghost use mathlib.Core.Path.{_≡_};
+ghost use Prim.Native.Nat.{_≤_};
+ghost use lib.ListN.{length, take};
+ghost use Rattle.decoder.specs.Required.{Inside, Lines, Readable};
+ghost use Rattle.decoder.specs.Transition.{transitionOf, outputs, caseActivated, caseDeactivated, casePitchKept, casePitchChanged};
+
+pub enum Transition {
+    // First case: inactive -> inactive
+    Inactive,
+    // Second case: inactive -> active
+    Activated,
+    // Third case: active -> inactive
+    Deactivated,
+    // Fourth case: active -> active with no pitch change
+    ActiveNoPitchChange,
+    // Fifth case: active -> active with pitch change
+    ActivePitchChanged,
+}
+
+// The case of a frame, by the previous frame, this one and their lags.
+pub fn transition_of(active_prev: bool, active: bool, lag_prev: Lag, lag: Lag) -> Transition
+    ensures { λ r. ⌜ r ≡ transitionOf «active_prev» active «lag_prev» lag ⌝ }
+{
+    if active_prev {
+        if active {
+            if lag_prev.whole == lag.whole {
+                if lag_prev.quarter == lag.quarter {
+                    return Transition::ActiveNoPitchChange;
+                }
+            }
+            return Transition::ActivePitchChanged;
+        }
+        return Transition::Deactivated;
+    }
+    if active {
+        return Transition::Activated;
+    }
+    Transition::Inactive
+}
+
+// In what follows x is the inputs with their past. y holds the past outputs and, behind them, this
+// frame's inputs, whose place the outputs take.
+
+// Second case: the new filter fades in.
+fn activated(new: Taps, x: &[f32], y: &mut [f32], history: usize, fade: usize)
+    requires { ⌜ Lines fade history (now x) (now y) × Inside new history ⌝ }
+    ensures { λ _. ⌜ now (y .exit) ≡ caseActivated new fade (now (x .entry)) (take history (now (y .entry))) ⌝ }
+{
+    filter_fade(Direction::In, new, x, y, history, fade);
+    filter_rest(new, x, y, history + fade);
+}
+
+// Third case: the old filter fades out.
+fn deactivated(old: Taps, x: &[f32], y: &mut [f32], history: usize, fade: usize)
+    requires { ⌜ Lines fade history (now x) (now y) × Inside old history ⌝ }
+    ensures { λ _. ⌜ now (y .exit) ≡ caseDeactivated old fade (now (x .entry)) (take history (now (y .entry))) ⌝ }
+{
+    filter_fade(Direction::Out, old, x, y, history, fade);
+}
+
+// Fourth case: the new filter throughout.
+fn pitch_kept(new: Taps, x: &[f32], y: &mut [f32], history: usize, fade: usize)
+    requires { ⌜ Lines fade history (now x) (now y) × Inside new history ⌝ }
+    ensures { λ _. ⌜ now (y .exit) ≡ casePitchKept new (now (x .entry)) (take history (now (y .entry))) ⌝ }
+{
+    filter_rest(new, x, y, history);
+}
+
+// A copy of the first samples of a line.
+fn set_aside(y: &[f32], count: usize) -> [f32; 1440]
+    requires { ⌜ (count ≤ length (now y)) × (count ≤ 1440) ⌝ }
+    ensures { λ r. ⌜ take count r ≡ take count (now (y .entry)) ⌝ }
+{
+    let mut z = [0.0; 1440];
+    put(&mut z, 0, &y[..count]);
+    z
+}
+
+// Fifth case: the old filter fades out and gives z, and over z the new one fades in. The numerators
+// read z, which is set aside; y takes its place from the left, so the denominators read y.
+fn pitch_changed(old: Taps, new: Taps, x: &[f32], y: &mut [f32], history: usize, fade: usize)
+    requires { ⌜ Lines fade history (now x) (now y) × Inside old history × Inside new history ⌝ }
+    ensures { λ _. ⌜ now (y .exit) ≡ casePitchChanged old new fade (now (x .entry)) (take history (now (y .entry))) ⌝ }
+{
+    let faded = history + fade;
+    filter_fade(Direction::Out, old, x, y, history, fade);
+    let z = set_aside(y, faded);
+    filter_fade(Direction::In, new, &z[..faded], y, history, fade);
+    filter_rest(new, x, y, faded);
+}
+
+// The outputs of a frame, by its case.
+pub fn filter_frame(
+    transition: Transition,
+    old: Taps,
+    new: Taps,
+    x: &[f32],
+    y: &mut [f32],
+    history: usize,
+    fade: usize,
+)
+    requires { ⌜ Lines fade history (now x) (now y) × Readable transition old new history ⌝ }
+    ensures { λ _. ⌜ now (y .exit) ≡ outputs transition old new fade (now (x .entry)) (take history (now (y .entry))) ⌝ }
+{
+    match transition {
+        Transition::Inactive => {}
+        Transition::Activated => activated(new, x, y, history, fade),
+        Transition::Deactivated => deactivated(old, x, y, history, fade),
+        Transition::ActiveNoPitchChange => pitch_kept(new, x, y, history, fade),
+        Transition::ActivePitchChanged => pitch_changed(old, new, x, y, history, fade),
+    }
+}
