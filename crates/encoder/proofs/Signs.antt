@@ -11,6 +11,7 @@ use mir.Val.{SFits, toZ, ofZ}
 use mir.ValLaws.{toZ-ofZ, toZ-pos}
 use Rattle.encoder.specs.Taps.{moved, offset}
 
+-- a small number fits
 pub small : (z : ℤ) → mag z ≤ 1000 → SFits w32 z
 small z h = record { sfits = omega arith }
 
@@ -22,7 +23,7 @@ pub read-whole : (n : ℕ) → n ≤ 1000 → toZ w32 n ≡ pos n
 read-whole n h = toZ-pos w32 n (omega arith)
 
 -- how far a negation, a sum and a product by four can reach
-pub mag-neg : (z : ℤ) → mag (negℤ z) ≤ suc (mag z)
+mag-neg : (z : ℤ) → mag (negℤ z) ≤ suc (mag z)
 mag-neg (pos zero) = omega arith
 mag-neg (pos (suc n)) = omega arith
 mag-neg (negsuc n) = omega arith
@@ -59,6 +60,7 @@ moved-is i (negsuc k) h = go (ltb i (suc k)) (suc k - suc i) (i - suc k) h
 pub mag-moved : (i : ℕ) (z : ℤ) → i ≤ 404 → mag z ≤ 404 → mag (pos i +ℤ z) ≤ 809
 mag-moved i z h k = omega (arith, mag-sum (pos i) z)
 
+-- a number without its sign
 pub natAbs-mag : (z : ℤ) → natAbs z ≤ suc (mag z)
 natAbs-mag (pos n) = omega arith
 natAbs-mag (negsuc n) = omega arith

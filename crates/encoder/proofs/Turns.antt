@@ -13,6 +13,7 @@ use mir.ValLaws.{toZ-pos, toZ-neg}
 use Rattle.encoder.specs.Taps.{turn, inside, moved}
 use Rattle.encoder.proofs.Signs.{small, mag-sum}
 
+-- how many turns a loop from -a has passed, by its variable's bits
 abbrev pub passed : ℕ → ℕ → ℕ
 passed a m = (m + a) % 2 ^ 32
 
@@ -33,6 +34,7 @@ by-sign a j P f g = go (ltb j (suc a)) refl
     go true e = f (ltb-true j (suc a) e)
     go false e = g (ltb-false j (suc a) e)
 
+-- it is no larger than where the loop starts and ends
 pub mag-turn : (a j : ℕ) → j ≤ 2 * suc a → mag (turn (suc a) j) ≤ suc a
 mag-turn a j h = by-sign a j (λ z. mag z ≤ suc a) (λ u. omega arith) (λ u. omega arith)
 
@@ -46,12 +48,14 @@ pub record Turn (a m : ℕ) : Type 0 where
   pub next : passed (suc a) (ofZ w32 (toZ w32 m +ℤ pos 1)) ≡ suc (passed (suc a) m)
 
 module _ (a m : ℕ) (few : a ≤ 100) (bits : m < 2 ^ 32) (within : passed (suc a) m ≤ suc (2 * suc a)) where
+  -- the variable is the turn's number
   turn-of : toZ w32 m ≡ turn (suc a) (passed (suc a) m)
   turn-of =
       by-sign a (passed (suc a) m) (λ z. toZ w32 m ≡ z)
       (λ h. let e : m ≡ 2 ^ 32 - suc (suc a - suc (passed (suc a) m)) = omega arith in ap (toZ w32) e ∙ toZ-neg w32 (suc a - suc (passed (suc a) m)) (omega arith))
       (λ h. let e : m ≡ passed (suc a) m - suc a = omega arith in ap (toZ w32) e ∙ toZ-pos w32 (passed (suc a) m - suc a) (omega arith))
 
+  -- in a turn
   pub in-turn : leZ (toZ w32 m) (pos (suc a)) ≡ true → Turn a m
   in-turn test = record { number = turn-of; over = over; size = size; fits = small _ (omega (arith, size, mag-sum (toZ w32 m) (pos 1))); bits = rw (next-bits m bits) (omega arith); next = rw (next-bits m bits) (omega (arith, over)) }
     where
