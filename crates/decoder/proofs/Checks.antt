@@ -32,14 +32,14 @@ unfolding newTaps tapsOf
 new-inside c k true lag nbits nums dens h e = inside-of-lag c k _ refl h
 new-inside c k false lag nbits nums dens h e = absurd (true≢false (sym e))
 
-module _ (d : Decoder) (c : Lc3Config) (active : Bool) (lag : Lag) (nums dens frame : List Float) (h : Checked d c active lag nums dens frame) where
-  found : Known c
+module _ {d : Decoder} {c : Lc3Config} {active : Bool} {lag : Lag} {nums dens frame : List Float} (h : Checked d c active lag nums dens frame) where
+  pub found : Known c
   found = known (d .rate) (d .duration) c (h .config)
 
-  sizes : Sized c
+  pub sizes : Sized c
   sizes = sized c found
 
-  start-and-lag : (blockFits c (d .«block_start_index») ≡ true) × (lagFits (c .fs) (d .«ltpf_active_prev») (d .lag) ≡ true)
+  pub start-and-lag : (blockFits c (d .«block_start_index») ≡ true) × (lagFits (c .fs) (d .«ltpf_active_prev») (d .lag) ≡ true)
   start-and-lag =
       both (blockFits c (d .«block_start_index»)) _
       (both (blockFits c (d .«block_start_index») && lagFits (c .fs) (d .«ltpf_active_prev») (d .lag)) _ (h .fits) .0)
@@ -57,7 +57,8 @@ module _ (d : Decoder) (c : Lc3Config) (active : Bool) (lag : Lag) (nums dens fr
 
   -- the frame can be filtered behind the state's rings
   pub filterable : (nbits : ℕ) → length (d .«x_hat_mem») ≡ 1080 → length (d .«x_hat_ltpf_mem») ≡ 1080 →
-      Filterable (transitionOf (d .«ltpf_active_prev») active (d .lag) (newTaps c active lag nbits nums dens .lag)) (oldTaps (c .fs) d) (newTaps c active lag nbits nums dens) c
+      Filterable (transitionOf (d .«ltpf_active_prev») active (d .lag) (newTaps c active lag nbits nums dens .lag)) (oldTaps (c .fs) d)
+      (newTaps c active lag nbits nums dens) c
       (d .«block_start_index») (d .«x_hat_mem») (d .«x_hat_ltpf_mem») frame
   filterable nbits x y = record {
     readable = readable (d .«ltpf_active_prev») active (d .lag) _ (oldTaps (c .fs) d) _ (c .history)

@@ -51,7 +51,8 @@ block-inside c start k h =
         let few : start / c .nf < n = lt-of-mul-lt-mul-right (c .nf) (rw q (omega arith)) in
         omega (arith, rw suc-mul at (mul-le-mul-right (c .nf) few))
 
-    whole-blocks : (d : FrameDuration) → c .nf ≡ frameOf (c .fs) d → c .history ≡ historyOf (c .fs) d → start < c .history → start % c .nf ≡ 0 → start + c .nf ≤ c .history
+    whole-blocks : (d : FrameDuration) → c .nf ≡ frameOf (c .fs) d → c .history ≡ historyOf (c .fs) d → start < c .history → start % c .nf ≡ 0 →
+        start + c .nf ≤ c .history
     whole-blocks TenMs f p l m = blocks 2 (rw f p) l m
     whole-blocks SevenPointFiveMs f p l m = blocks 3 (rw f p) l m
 
@@ -86,8 +87,10 @@ lag-for-fits fs (Present p) lag h = go (p .active) (leb (p .index) 511) refl h
     between : p .index ≤ 511 → lagFits fs true (lagOf (fs .r) (quarters (p .index))) ≡ true
     between i =
         rw (
-          le-leb (rescaled (fs .r) (quarters 0) / 4) (rescaled (fs .r) (quarters (p .index)) / 4) (omega (arith, rescaled-never-falls (fs .r) 0 (p .index) (omega arith))),
-          le-leb (rescaled (fs .r) (quarters (p .index)) / 4) (rescaled (fs .r) (quarters 511) / 4) (omega (arith, rescaled-never-falls (fs .r) (p .index) 511 i)),
+          le-leb (rescaled (fs .r) (quarters 0) / 4) (rescaled (fs .r) (quarters (p .index)) / 4)
+              (omega (arith, rescaled-never-falls (fs .r) 0 (p .index) (omega arith))),
+          le-leb (rescaled (fs .r) (quarters (p .index)) / 4) (rescaled (fs .r) (quarters 511) / 4)
+              (omega (arith, rescaled-never-falls (fs .r) (p .index) 511 i)),
           le-leb (rescaled (fs .r) (quarters (p .index)) % 4) 3 (omega arith),
         )
 
@@ -112,6 +115,12 @@ readable true true lo ln old new history o n = go (sameLag lo ln)
     go true = n refl
     go false = (o refl, n refl)
 
+-- the run's limit is not 0
+pub limit-some : (d : FrameDuration) → 0 < settledLimit d
+unfolding settledLimit
+limit-some TenMs = omega arith
+limit-some SevenPointFiveMs = omega arith
+
 -- a fit run is not above its limit
 pub run-within : (d : FrameDuration) (active : Bool) (run : ℕ) (settled : Bool) → runFits d active run settled ≡ true → run ≤ settledLimit d
 unfolding runFits
@@ -125,7 +134,8 @@ pub gain-row : (i t : ℕ) → gainRow (gainOf i t) ≤ 3
 unfolding gainOf
 gain-row i t = go (ltb t (320 + 80 * i)) (ltb t (400 + 80 * i)) (ltb t (480 + 80 * i)) (ltb t (560 + 80 * i))
   where
-    go : (a b c d : Bool) → gainRow (cond a (On (hundredths 40) 0) (cond b (On (hundredths 35) 1) (cond c (On (hundredths 30) 2) (cond d (On (hundredths 25) 3) Off)))) ≤ 3
+    go : (a b c d : Bool) →
+        gainRow (cond a (On (hundredths 40) 0) (cond b (On (hundredths 35) 1) (cond c (On (hundredths 30) 2) (cond d (On (hundredths 25) 3) Off)))) ≤ 3
     go true b c d = omega arith
     go false true c d = omega arith
     go false false true d = omega arith

@@ -8,3 +8,5 @@ pub mod Tested
 pub mod Fit
 pub mod StraightLines
 pub mod Checks
+pub mod StaysFit
+pub mod NotACopy

@@ -33,7 +33,9 @@ inside-later t i j l h =
 module _ (f : List Float → Float) (t : Taps) (x y : List Float) (from n : ℕ) (h : from + n ≤ length y) (i : Inside t from) where
   F-grown : F t x (grown f y from n) (from + n) ≡ F t x (grow f (take from y) n) (length (grow f (take from y) n))
   unfolding grown
-  F-grown = rw (length-outputs f y from n h) (F-past t x (grow f (take from y) n) _ (from + n) (length-outputs f y from n h) (inside-later t from (from + n) (omega arith) i))
+  F-grown =
+      rw (length-outputs f y from n h)
+      (F-past t x (grow f (take from y) n) _ (from + n) (length-outputs f y from n h) (inside-later t from (from + n) (omega arith) i))
 
   -- the output that the code computes from the line is the next one
   pub steady-next : at x (from + n) ⊖ F t x (grown f y from n) (from + n) ≡ steady t x (grow f (take from y) n)

@@ -19,7 +19,7 @@ pub length-straight : (ring : List Float) (history start : ℕ) → start ≤ hi
 unfolding straight
 length-straight ring history start s h = simp (length-append, length-take, length-drop) (omega arith)
 
-module _ (t : Transition) (old new : Taps) (c : Lc3Config) (start : ℕ) (xs ys frame : List Float) (f : Filterable t old new c start xs ys frame) where
+module _ {t : Transition} {old new : Taps} {c : Lc3Config} {start : ℕ} {xs ys frame : List Float} (f : Filterable t old new c start xs ys frame) where
   past-x : length (straight xs (c .history) start) ≡ c .history
   past-x = length-straight xs (c .history) start (f .block) (f .past-x)
 
@@ -49,14 +49,14 @@ module _ (t : Transition) (old new : Taps) (c : Lc3Config) (start : ℕ) (xs ys 
   behind out e = rw (e, take-at (straight ys (c .history) start) frame (c .history) past-y)
 
 -- the first case leaves the frame as it is
-pub untouched : (old new : Taps) (c : Lc3Config) (start : ℕ) (xs ys frame : List Float) → Filterable Inactive old new c start xs ys frame →
+pub untouched : {old new : Taps} {c : Lc3Config} {start : ℕ} {xs ys frame : List Float} → Filterable Inactive old new c start xs ys frame →
     frame ≡ filtered Inactive old new c start xs ys frame
 unfolding filtered outputs
-untouched old new c start xs ys frame f =
+untouched {c = c} {start = start} {xs = xs} {ys = ys} {frame = frame} f =
     let x = straight xs (c .history) start in
     let y = straight ys (c .history) start in
-    let py : length y ≡ c .history = past-y Inactive old new c start xs ys frame f in
-    rw (py, drop-at x frame (c .history) (past-x Inactive old new c start xs ys frame f), drop-at y frame (c .history) py)
+    let py : length y ≡ c .history = past-y f in
+    rw (py, drop-at x frame (c .history) (past-x f), drop-at y frame (c .history) py)
 
 -- the part of a line behind its past, put over samples of the same number
 pub put-back : (samples out rest : List Float) (history : ℕ) → length out ≡ history + length samples →

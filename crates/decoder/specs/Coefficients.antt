@@ -27,6 +27,7 @@ abbrev pub gainValue : Gain → Float
 gainValue Off = 0·0
 gainValue (On g row) = g
 
+-- and its row
 abbrev pub gainRow : Gain → ℕ
 gainRow Off = 0
 gainRow (On g row) = row

@@ -72,6 +72,7 @@ accepted d c active lag nbits numerators denominators samples =
     let out = outputsOf d c active new samples in
     (nextState d c active new (stored (d .«x_hat_mem») (d .«block_start_index») samples) (stored (d .«x_hat_ltpf_mem») (d .«block_start_index») out), out)
 
+-- an accepted frame is answered with 0
 abbrev pub done : Decoder × List Float → Framed × List Float
 done r = (framedAs Done (r .0), r .1)
 
@@ -89,13 +90,14 @@ setCounts c numerators denominators =
 abbrev pub setFinite : List Float → List Float → Bool
 setFinite numerators denominators = allFinite numerators && allFinite denominators
 
--- a frame's checks in their order: 9, 3, 4, 5, 6, 7, 8
+-- the last checks, 7 and 8
 abbrev pub framedAt : Decoder → Lc3Config → List Float → List Float → PitchRecord → ℕ → List Float → FoundLag → Framed × List Float
 framedAt d c numerators denominators pitch nbits samples FoundLag.IndexTooLarge = refused IndexTooLarge d samples
 framedAt d c numerators denominators pitch nbits samples (FoundLag.Lag lag) =
     unless (allInRange samples) (refused SampleOutOfRange d samples)
     (done (accepted d c (isActive pitch) lag nbits numerators denominators samples))
 
+-- the checks before them, 9, 3, 4, 5 and 6
 abbrev pub framedWith : Decoder → List Float → List Float → PitchRecord → ℕ → List Float → Configured → Framed × List Float
 framedWith d numerators denominators pitch nbits samples (Refused answer) = refused answer d samples
 framedWith d numerators denominators pitch nbits samples (Config c) =
@@ -105,10 +107,11 @@ framedWith d numerators denominators pitch nbits samples (Config c) =
     (unless (leb nbits 3200) (refused TooManyBits d samples)
     (framedAt d c numerators denominators pitch nbits samples (lagFor (c .fs) pitch)))))
 
+-- a frame call: what it gives back, and the lent samples at exit
 unfoldable pub framed : Decoder → List Float → List Float → PitchRecord → ℕ → List Float → Framed × List Float
 framed d numerators denominators pitch nbits samples = framedWith d numerators denominators pitch nbits samples (fitConfig d)
 
--- a loss mark checks 9 only; it sets the run to 0 and settled to no, and changes nothing else
+-- a loss mark sets the run to 0 and settled to no, and changes nothing else
 abbrev pub unsettled : Decoder → Decoder
 unsettled d = record {
   rate = d .rate;
@@ -124,9 +127,11 @@ unsettled d = record {
   settled = false;
 }
 
+-- an unfit state is handed back as it is
 abbrev pub lostWith : Decoder → Configured → Framed
 lostWith d (Refused answer) = framedAs answer d
 lostWith d (Config c) = framedAs Done (unsettled d)
 
+-- a loss mark checks 9 only
 unfoldable pub lostFrom : Decoder → Framed
 lostFrom d = lostWith d (fitConfig d)

@@ -8,6 +8,7 @@ use Rattle.floats.specs.Single.{float}
 unfoldable pub inRange : Float → Bool
 inRange x = le (neg (float 1048576)) x && le x (float 1048576)
 
+-- every sample is
 abbrev pub allInRange : List Float → Bool
 allInRange [] = true
 allInRange (x ∷ xs) = inRange x && allInRange xs

@@ -21,6 +21,7 @@ abbrev pub lagWhere : Bool → FoundLag → FoundLag
 lagWhere active FoundLag.IndexTooLarge = FoundLag.IndexTooLarge
 lagWhere active (FoundLag.Lag l) = FoundLag.Lag (cond active l noLag)
 
+-- an absent record has no index, and no lag
 abbrev pub lagFor : Rate → PitchRecord → FoundLag
 lagFor fs Absent = FoundLag.Lag noLag
 lagFor fs (Present p) = lagWhere (p .active) (foundLag fs (p .index))

@@ -33,11 +33,12 @@ cleared rate duration = record {
   settled = false;
 }
 
--- a start checks 1 and 2; a refused one hands back the cleared 48000 Hz, 10 ms state
+-- a refused start hands back the cleared 48000 Hz, 10 ms state
 abbrev pub startedWith : ℕ → ℕ → Configured → Started
 startedWith rate duration (Config c) = record { answer = Done; decoder = cleared rate duration }
 startedWith rate duration (Refused a) = record { answer = a; decoder = cleared 48000 10000 }
 
+-- a start checks 1 and 2
 abbrev pub started : ℕ → ℕ → Started
 started rate duration = startedWith rate duration (configOf rate duration)
 
@@ -61,16 +62,18 @@ unfoldable pub runFits : FrameDuration → Bool → ℕ → Bool → Bool
 runFits d active run settled =
     not (active && ltb 0 run) && not (ltb (settledLimit d) run) && not (eqb run (settledLimit d) && not settled)
 
+-- fit: none of the things that document 01 lists as unfit
 abbrev pub fit : Lc3Config → Decoder → Bool
 fit c d =
     blockFits c (d .«block_start_index») && lagFits (c .fs) (d .«ltpf_active_prev») (d .lag)
     && runFits (c .«n_ms») (d .«ltpf_active_prev») (d .run) (d .settled)
 
--- the configuration of a fit state; an unfit state, one of an unknown rate or duration too, is refused
+-- an unknown rate or duration is unfit too
 abbrev pub fitWith : Decoder → Configured → Configured
 fitWith d (Refused a) = Refused UnfitState
 fitWith d (Config c) = cond (fit c d) (Config c) (Refused UnfitState)
 
+-- the configuration of a fit state; an unfit one is refused with 9
 abbrev pub fitConfig : Decoder → Configured
 fitConfig d = fitWith d (configOf (d .rate) (d .duration))
 

@@ -12,10 +12,11 @@ use Rattle.decoder.specs.declared.fade.Direction.the-variants.{In, Out}
 use Rattle.decoder.specs.declared.transition.Transition.{Transition}
 use Rattle.decoder.specs.declared.transition.Transition.the-variants.{Inactive, Activated, Deactivated, ActiveNoPitchChange, ActivePitchChanged}
 
--- the case, by whether the previous frame and this one are active, and by their lags
+-- the same whole lag and quarter
 abbrev pub sameLag : Lag → Lag → Bool
 sameLag old new = eqb (old .whole) (new .whole) && eqb (old .quarter) (new .quarter)
 
+-- the case, by whether the previous frame and this one are active, and by their lags
 unfoldable pub transitionOf : Bool → Bool → Lag → Lag → Transition
 transitionOf false false old new = Inactive
 transitionOf false true old new = Activated

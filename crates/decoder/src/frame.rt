@@ -21,6 +21,7 @@ pub struct Framed {
     pub decoder: Decoder,
 }
 
+// An answer with a state, and the settled report of that state.
 fn framed_as(answer: Answer, decoder: Decoder) -> Framed
     ensures { λ r. ⌜ r ≡ framedAs answer decoder ⌝ }
 {

@@ -19,32 +19,37 @@ kept-filter-requires c κs = search needs
 
 compute-filter-coeffs-requires : tie.Need-compute-filter-coeffs-requires
 compute-filter-coeffs-requires c κs =
-    let s = c .before .before .before .before .before in
-    (lent (s .args .t1) (s .args .config) (s .args .active) (s .args .lag) (s .args .numerators .now) (s .args .denominators .now) (s .args .samples .now) (s .pre), s .pre .lag-fits)
+    let s = c .before .before .before .before .before in (lent (s .pre), s .pre .lag-fits)
 
 transition-of-requires : tie.Need-transition-of-requires
 transition-of-requires c κs = search needs
 
 advance-requires : tie.Need-advance-requires
 advance-requires c κs =
-    let s = c .before .before .before .before .before .before .before .before .before in
-    (run-fits (s .args .t1) (s .args .config) (s .args .active) (s .args .lag) (s .args .numerators .now) (s .args .denominators .now) (s .args .samples .now) (s .pre), omega (arith, block-fits (s .args .t1) (s .args .config) (s .args .active) (s .args .lag) (s .args .numerators .now) (s .args .denominators .now) (s .args .samples .now) (s .pre), s .pre .count))
+    let s = c .before .before .before .before .before .before .before .before .before in (
+      run-fits (s .pre),
+      omega (arith, block-fits (s .pre), s .pre .count),
+    )
 
 store-requires : tie.Need-store-requires
 store-requires c κs =
     let s = c .before .before .before .before .before .before .before .before .before .before .before .before in
-    block-fits (s .args .t1) (s .args .config) (s .args .active) (s .args .lag) (s .args .numerators .now) (s .args .denominators .now) (s .args .samples .now) (s .pre) .1
+    block-fits (s .pre) .1
 
 filter-samples-requires : tie.Need-filter-samples-requires
 filter-samples-requires c κs =
     let s = c .before .before .before .before .before .before .before .before .before .before .before .before .before .before .before .before .before in
-    rw (c .before .before .before .before .before .before .before .before .transition-of .ensures, c .before .before .before .before .before .before .before .before .before .before .before .before .kept-filter .ensures, c .before .before .before .before .before .before .before .before .before .before .before .compute-filter-coeffs .ensures)
-    (filterable (s .args .t1) (s .args .config) (s .args .active) (s .args .lag) (s .args .numerators .now) (s .args .denominators .now) (s .args .samples .now) (s .pre) (s .args .nbits) (long-x s) (long-y s))
+    rw (
+      c .before .before .before .before .before .before .before .before .transition-of .ensures,
+      c .before .before .before .before .before .before .before .before .before .before .before .before .kept-filter .ensures,
+      c .before .before .before .before .before .before .before .before .before .before .before .compute-filter-coeffs .ensures,
+    )
+    (filterable (s .pre) (s .args .nbits) (long-x s) (long-y s))
 
 store-requires-2 : tie.Need-store-requires-2
 store-requires-2 c κs =
     let s = c .before .before .before .before .before .before .before .before .before .before .before .before .before .before .before .before .before .before .before .before .before .before in
-    omega (arith, block-fits (s .args .t1) (s .args .config) (s .args .active) (s .args .lag) (s .args .numerators .now) (s .args .denominators .now) (s .args .samples .now) (s .pre) .1, c .before .before .before .before .filter-samples .kept .1 .1 .1 .1 .1 .1 .1 .0)
+    omega (arith, block-fits (s .pre) .1, c .before .before .before .before .filter-samples .kept .1 .1 .1 .1 .1 .1 .1 .0)
 
 same-length : tie.Need-same-length
 same-length c = search needs
@@ -52,9 +57,14 @@ same-length c = search needs
 returns : tie.Need-returns
 returns c =
     let s = c .before .before .before .before .before .before .before .before .before .before .before .before .before .before .before .before .before .before .before .before .before .before .before in
-    put-together (s .args .t1) (s .args .config) (s .args .active) (s .args .lag) (s .args .nbits) (s .args .numerators .now) (s .args .denominators .now) (s .args .samples .now) _ _ _ _ _ _ _
-    (c .before .before .before .before .before .before .before .before .before .before .before .before .before .before .before .before .before .before .kept-filter .ensures) (c .before .before .before .before .before .before .before .before .before .before .before .before .before .before .before .before .before .compute-filter-coeffs .ensures) (c .before .before .before .before .before .before .before .before .before .before .before .before .before .before .transition-of .ensures) (c .before .before .before .before .before .before .before .before .before .before .before .before .before .advance .ensures)
-    (c .before .before .before .before .before .before .before .before .before .before .store .ensures) (c .before .before .before .before .before .filter-samples .ensures) (c .store2 .ensures)
+    put-together (s .args .t1) (s .args .config) (s .args .active) (s .args .lag) (s .args .nbits) (s .args .numerators .now) (s .args .denominators .now)
+    (s .args .samples .now) _ _ _ _ _ _ _
+    (c .before .before .before .before .before .before .before .before .before .before .before .before .before .before .before .before .before .before .kept-filter .ensures)
+    (c .before .before .before .before .before .before .before .before .before .before .before .before .before .before .before .before .before .compute-filter-coeffs .ensures)
+    (c .before .before .before .before .before .before .before .before .before .before .before .before .before .before .transition-of .ensures)
+    (c .before .before .before .before .before .before .before .before .before .before .before .before .before .advance .ensures)
+    (c .before .before .before .before .before .before .before .before .before .before .store .ensures)
+    (c .before .before .before .before .before .filter-samples .ensures) (c .store2 .ensures)
 
 pub accept-spec : {M : Type 1} → statement M
 accept-spec =

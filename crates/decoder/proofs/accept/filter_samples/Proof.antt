@@ -8,10 +8,16 @@ use borrow.Author.Needs.{needs}
 use Rattle.decoder.proofs.accept.filter_samples.Statement.{statement}
 use Rattle.decoder.proofs.accept.filter_samples.Tie as tie
 
-outputs-long : (c : tie.After-straighten2) → length (take (c .before .before .before .before .before .before .before .before .args .config .history + length (c .before .before .before .before .before .before .before .before .args .samples .now)) (c .straighten2 .result)) ≡ c .before .before .before .before .before .before .before .before .args .config .history + length (c .before .before .before .before .before .before .before .before .args .samples .now)
+outputs-long : (c : tie.After-straighten2) →
+    length (take
+    (c .before .before .before .before .before .before .before .before .args .config .history + length
+    (c .before .before .before .before .before .before .before .before .args .samples .now)) (c .straighten2 .result))
+    ≡ c .before .before .before .before .before .before .before .before .args .config .history + length
+    (c .before .before .before .before .before .before .before .before .args .samples .now)
 outputs-long c =
     let s = c .before .before .before .before .before .before .before .before in
-    rw (c .straighten2 .ensures) (line-y (s .args .transition) (s .args .old) (s .args .new) (s .args .config) (s .args .start) (s .args .x-hat-mem .now) (s .args .x-hat-ltpf-mem .now) (s .args .samples .now) (s .pre))
+    rw (c .straighten2 .ensures)
+    (line-y (s .pre))
 
 enum-told : tie.Need-enum-told
 enum-told c = search needs
@@ -19,7 +25,8 @@ enum-told c = search needs
 returns : tie.Need-returns
 returns c =
     let s = c .before .before .before in
-    rw (c .enum-told .given .1) (untouched (s .args .old) (s .args .new) (s .args .config) (s .args .start) (s .args .x-hat-mem .now) (s .args .x-hat-ltpf-mem .now) (s .args .samples .now) (rw (c .enum-told .given .1) at (s .pre)))
+    rw (c .enum-told .given .1)
+    (untouched (rw (c .enum-told .given .1) at (s .pre)))
 
 add-total : tie.Need-add-total
 add-total c = search needs
@@ -36,7 +43,8 @@ array-share-prefix-x c = search needs
 slice-aggregate-filter-frame : tie.Need-slice-aggregate-filter-frame
 slice-aggregate-filter-frame c =
     let s = c .before .before .before .before .before .before .before .before .before in
-    sym (rw (c .before .before .before .before .straighten .ensures) (line-x (s .args .transition) (s .args .old) (s .args .new) (s .args .config) (s .args .start) (s .args .x-hat-mem .now) (s .args .x-hat-ltpf-mem .now) (s .args .samples .now) (s .pre)))
+    sym (rw (c .before .before .before .before .straighten .ensures)
+    (line-x (s .pre)))
 
 array-borrow-prefix-y : tie.Need-array-borrow-prefix-y
 array-borrow-prefix-y c = search needs
@@ -46,8 +54,11 @@ slice-aggregate-filter-frame-2 c = sym (outputs-long (c .before .before))
 
 filter-frame-requires : tie.Need-filter-frame-requires
 filter-frame-requires c κs =
-    let s = c .before .before .before .before .before .before .before .before .before .before in
-    (rw (c .before .before .before .before .before .straighten .ensures, c .before .before .straighten2 .ensures) (lines (s .args .transition) (s .args .old) (s .args .new) (s .args .config) (s .args .start) (s .args .x-hat-mem .now) (s .args .x-hat-ltpf-mem .now) (s .args .samples .now) (s .pre)), s .pre .readable)
+    let s = c .before .before .before .before .before .before .before .before .before .before in (
+      rw (c .before .before .before .before .before .straighten .ensures, c .before .before .straighten2 .ensures)
+          (lines (s .pre)),
+      s .pre .readable,
+    )
 
 mul-put : tie.Need-mul-put
 mul-put c = search needs
@@ -59,7 +70,9 @@ part-put-start : tie.Need-part-put-start
 part-put-start c = search needs
 
 part-put-end : tie.Need-part-put-end
-part-put-end c = simp length-append (omega (arith, outputs-long (c .before .before .before .before .before .before), c .before .before .before .filter-frame .kept .1 .1 .1 .1 .0))
+part-put-end c =
+    simp length-append
+    (omega (arith, outputs-long (c .before .before .before .before .before .before), c .before .before .before .filter-frame .kept .1 .1 .1 .1 .0))
 
 put-requires : tie.Need-put-requires
 put-requires c κs = search needs
@@ -71,8 +84,18 @@ returns-2 : tie.Need-returns-2
 returns-2 c =
     let s = c .before .before .before .before .before .before .before .before .before .before .before .before .before .before .before .before .before .before in
     c .before .before .put .ensures
-    ∙ put-back (s .args .samples .now) _ _ (s .args .config .history) (omega (arith, outputs-long (c .before .before .before .before .before .before .before .before .before .before), c .before .before .before .before .before .before .before .filter-frame .kept .1 .1 .1 .1 .0))
-    ∙ behind (s .args .transition) (s .args .old) (s .args .new) (s .args .config) (s .args .start) (s .args .x-hat-mem .now) (s .args .x-hat-ltpf-mem .now) (s .args .samples .now) (s .pre) _ (rw (c .before .before .before .before .before .before .before .before .before .before .before .before .before .straighten .ensures, c .before .before .before .before .before .before .before .before .before .before .straighten2 .ensures) at (c .before .before .before .before .before .before .before .filter-frame .ensures))
+    ∙ put-back (s .args .samples .now) _ _ (s .args .config .history)
+    (omega (
+      arith,
+      outputs-long (c .before .before .before .before .before .before .before .before .before .before),
+      c .before .before .before .before .before .before .before .filter-frame .kept .1 .1 .1 .1 .0,
+    ))
+    ∙ behind (s .pre) _
+    (rw (
+      c .before .before .before .before .before .before .before .before .before .before .before .before .before .straighten .ensures,
+      c .before .before .before .before .before .before .before .before .before .before .straighten2 .ensures,
+    ) at
+    (c .before .before .before .before .before .before .before .filter-frame .ensures))
 
 pub filter-samples-spec : {M : Type 1} → statement M
 filter-samples-spec =

@@ -58,7 +58,9 @@ loop-again c = (
   search needs,
   search needs,
   simp length-set (omega arith),
-  rw (c .before .before .loop .inv .3) (scaled-more _ (c .before .before .before .args .row .now) (c .before .before .before .args .c .now) (c .before .before .loop .k) (search needs) (search needs)),
+  rw (c .before .before .loop .inv .3)
+      (scaled-more _ (c .before .before .before .args .row .now) (c .before .before .before .args .c .now) (c .before .before .loop .k) (search needs)
+      (search needs)),
 )
 
 same-length : tie.Need-same-length Inv-loop μ-loop

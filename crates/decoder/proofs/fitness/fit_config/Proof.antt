@@ -8,7 +8,9 @@ use borrow.Author.Needs.{needs}
 use Rattle.decoder.proofs.fitness.fit_config.Statement.{statement}
 use Rattle.decoder.proofs.fitness.fit_config.Tie as tie
 
-found : (c : tie.After-known-told) → configOf (c .before .before .before .before .args .decoder .rate) (c .before .before .before .before .args .decoder .duration) ≡ Config (c .before .config2 .given .0 .0)
+found : (c : tie.After-known-told) →
+    configOf (c .before .before .before .before .args .decoder .rate) (c .before .before .before .before .args .decoder .duration)
+    ≡ Config (c .before .config2 .given .0 .0)
 found c = sym (c .before .before .before .config .ensures) ∙ c .before .config2 .given .1
 
 config-requires : tie.Need-config-requires
@@ -35,7 +37,12 @@ lag-fits-requires : tie.Need-lag-fits-requires
 lag-fits-requires c κs = search needs
 
 returns-3 : tie.Need-returns-3
-returns-3 c = rw (found (c .before .before .before .before .before .before), passed (c .before .before .before .block-fits .ensures) (c .before .before .if1 .left), failed (c .before .lag-fits .ensures) (c .if2 .taken))
+returns-3 c =
+    rw (
+      found (c .before .before .before .before .before .before),
+      passed (c .before .before .before .block-fits .ensures) (c .before .before .if1 .left),
+      failed (c .before .lag-fits .ensures) (c .if2 .taken),
+    )
 
 run-fits-requires : tie.Need-run-fits-requires
 run-fits-requires c κs = search needs

@@ -18,11 +18,21 @@ returns c = rw (c .before .before .before .before .before .if1 .taken, lt-leb _ 
 
 returns-2 : tie.Need-returns-2
 unfolding lagFits quarters
-returns-2 c = rw (c .before .before .before .before .before .before .before .before .if1 .taken, le-leb _ _ (rw (c .before .before .before .before .before .before .before .rescale .ensures) at (c .before .before .before .if2 .left)), lt-leb _ _ (rw (c .before .before .before .before .before .before .rescale2 .ensures) at (c .if3 .taken)))
+returns-2 c =
+    rw (
+      c .before .before .before .before .before .before .before .before .if1 .taken,
+      le-leb _ _ (rw (c .before .before .before .before .before .before .before .rescale .ensures) at (c .before .before .before .if2 .left)),
+      lt-leb _ _ (rw (c .before .before .before .before .before .before .rescale2 .ensures) at (c .if3 .taken)),
+    )
 
 returns-3 : tie.Need-returns-3
 unfolding lagFits quarters
-returns-3 c = rw (c .before .before .before .before .before .before .before .before .before .if1 .taken, le-leb _ _ (rw (c .before .before .before .before .before .before .before .before .rescale .ensures) at (c .before .before .before .before .if2 .left)), le-leb _ _ (rw (c .before .before .before .before .before .before .before .rescale2 .ensures) at (c .before .if3 .left)))
+returns-3 c =
+    rw (
+      c .before .before .before .before .before .before .before .before .before .if1 .taken,
+      le-leb _ _ (rw (c .before .before .before .before .before .before .before .before .rescale .ensures) at (c .before .before .before .before .if2 .left)),
+      le-leb _ _ (rw (c .before .before .before .before .before .before .before .rescale2 .ensures) at (c .before .if3 .left)),
+    )
 
 returns-4 : tie.Need-returns-4
 unfolding lagFits

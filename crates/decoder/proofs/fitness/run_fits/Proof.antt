@@ -6,16 +6,11 @@ use native.Mathlib.Omega.{arith}
 use borrow.Author.Tests.{lt-ltb, le-ltb, eq-eqb, ne-eqb, eqb-true, eqb-false}
 use lib.Dec.{ltb, eqb}
 use Rattle.rates.specs.declared.duration.FrameDuration.{FrameDuration}
-use Rattle.rates.specs.declared.duration.FrameDuration.the-variants.{TenMs, SevenPointFiveMs}
 use Rattle.decoder.specs.State.{settledLimit, runFits}
+use Rattle.decoder.proofs.Fit.{limit-some}
 use borrow.Author.Needs.{needs}
 use Rattle.decoder.proofs.fitness.run_fits.Statement.{statement}
 use Rattle.decoder.proofs.fitness.run_fits.Tie as tie
-
-limit-some : (d : FrameDuration) → 0 < settledLimit d
-unfolding settledLimit
-limit-some TenMs = omega arith
-limit-some SevenPointFiveMs = omega arith
 
 -- after an active frame only an empty run is fit
 active-run : (d : FrameDuration) (run : ℕ) (settled : Bool) → eqb run 0 ≡ runFits d true run settled

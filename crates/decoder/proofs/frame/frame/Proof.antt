@@ -14,7 +14,8 @@ use Rattle.decoder.proofs.frame.frame.Statement.{statement}
 use Rattle.decoder.proofs.frame.frame.Tie as tie
 
 -- the configuration that was found
-found : (c : tie.After-known-told) → fitConfig (c .before .before .before .before .before .before .before .args .decoder) ≡ Config (c .before .config .given .0 .0)
+found : (c : tie.After-known-told) →
+    fitConfig (c .before .before .before .before .before .before .before .args .decoder) ≡ Config (c .before .config .given .0 .0)
 found c = sym (c .before .before .before .fit-config .ensures) ∙ c .before .config .given .1
 
 fit-config-requires : tie.Need-fit-config-requires
@@ -45,11 +46,7 @@ framed-as-requires-2 c κs = search needs
 returns-2 : tie.Need-returns-2
 unfolding framed
 returns-2 c =
-    rw (
-      c .framed-as2 .ensures,
-      found (c .before .before .before),
-      failed (c .before .before .set-counts .ensures) (c .before .if1 .taken),
-    )
+    rw (c .framed-as2 .ensures, found (c .before .before .before), failed (c .before .before .set-counts .ensures) (c .before .if1 .taken))
 
 set-finite-requires : tie.Need-set-finite-requires
 set-finite-requires c κs = search needs
@@ -114,8 +111,10 @@ returns-6 c =
     rw (
       c .framed-as6 .ensures,
       found (c .before .before .before .before .before .before .before .before .before .before .before .before),
-      passed (c .before .before .before .before .before .before .before .before .before .before .before .set-counts .ensures) (c .before .before .before .before .before .before .before .before .before .before .if1 .left),
-      passed (c .before .before .before .before .before .before .before .before .before .set-finite .ensures) (c .before .before .before .before .before .before .before .before .if2 .left),
+      passed (c .before .before .before .before .before .before .before .before .before .before .before .set-counts .ensures)
+          (c .before .before .before .before .before .before .before .before .before .before .if1 .left),
+      passed (c .before .before .before .before .before .before .before .before .before .set-finite .ensures)
+          (c .before .before .before .before .before .before .before .before .if2 .left),
       eq-eqb _ _ (c .before .before .before .before .before .before .if3 .left),
       le-leb _ _ (c .before .before .before .before .before .if4 .left),
       ← c .before .before .before .lag-for .ensures,
@@ -137,8 +136,10 @@ returns-7 c =
     rw (
       c .framed-as7 .ensures,
       found (c .before .before .before .before .before .before .before .before .before .before .before .before .before .before .before .before),
-      passed (c .before .before .before .before .before .before .before .before .before .before .before .before .before .before .before .set-counts .ensures) (c .before .before .before .before .before .before .before .before .before .before .before .before .before .before .if1 .left),
-      passed (c .before .before .before .before .before .before .before .before .before .before .before .before .before .set-finite .ensures) (c .before .before .before .before .before .before .before .before .before .before .before .before .if2 .left),
+      passed (c .before .before .before .before .before .before .before .before .before .before .before .before .before .before .before .set-counts .ensures)
+          (c .before .before .before .before .before .before .before .before .before .before .before .before .before .before .if1 .left),
+      passed (c .before .before .before .before .before .before .before .before .before .before .before .before .before .set-finite .ensures)
+          (c .before .before .before .before .before .before .before .before .before .before .before .before .if2 .left),
       eq-eqb _ _ (c .before .before .before .before .before .before .before .before .before .before .if3 .left),
       le-leb _ _ (c .before .before .before .before .before .before .before .before .before .if4 .left),
       ← c .before .before .before .before .before .before .before .lag-for .ensures,
@@ -153,9 +154,13 @@ accept-requires : tie.Need-accept-requires
 accept-requires c κs =
     let a = c .before .before .before .before .before .before .before .before .before .before .before .before .before .before .before .before .before .before .before .before .before .before .before .before .args in
     rw (c .before .is-active .ensures)
-    (checked (a .decoder) _ (a .pitch) (c .before .before .before .before .before .before .lag .given .0 .0) (a .numerators .now) (a .denominators .now) (a .samples .now) (found (c .before .before .before .before .before .before .before .before .before .before .before .before .before .before .before .before .before))
-    (sym (c .before .before .before .before .before .before .before .before .lag-for .ensures) ∙ c .before .before .before .before .before .before .lag .given .1)
-    (passed (c .before .before .before .before .before .before .before .before .before .before .before .before .before .before .before .before .set-counts .ensures) (c .before .before .before .before .before .before .before .before .before .before .before .before .before .before .before .if1 .left)) (c .before .before .before .before .before .before .before .before .before .before .before .if3 .left))
+    (checked (a .decoder) _ (a .pitch) (c .before .before .before .before .before .before .lag .given .0 .0) (a .numerators .now) (a .denominators .now)
+    (a .samples .now)
+    (found (c .before .before .before .before .before .before .before .before .before .before .before .before .before .before .before .before .before))
+    (sym (c .before .before .before .before .before .before .before .before .lag-for .ensures)
+    ∙ c .before .before .before .before .before .before .lag .given .1)
+    (passed (c .before .before .before .before .before .before .before .before .before .before .before .before .before .before .before .before .set-counts .ensures) (c .before .before .before .before .before .before .before .before .before .before .before .before .before .before .before .if1 .left))
+    (c .before .before .before .before .before .before .before .before .before .before .before .if3 .left))
 
 framed-as-requires-8 : tie.Need-framed-as-requires-8
 framed-as-requires-8 c κs = search needs
@@ -169,8 +174,10 @@ returns-8 c =
     rw (
       c .framed-as8 .ensures,
       found (c .before .before .before .before .before .before .before .before .before .before .before .before .before .before .before .before .before .before .before .before .before),
-      passed (c .before .before .before .before .before .before .before .before .before .before .before .before .before .before .before .before .before .before .before .before .set-counts .ensures) (c .before .before .before .before .before .before .before .before .before .before .before .before .before .before .before .before .before .before .before .if1 .left),
-      passed (c .before .before .before .before .before .before .before .before .before .before .before .before .before .before .before .before .before .before .set-finite .ensures) (c .before .before .before .before .before .before .before .before .before .before .before .before .before .before .before .before .before .if2 .left),
+      passed (c .before .before .before .before .before .before .before .before .before .before .before .before .before .before .before .before .before .before .before .before .set-counts .ensures)
+          (c .before .before .before .before .before .before .before .before .before .before .before .before .before .before .before .before .before .before .before .if1 .left),
+      passed (c .before .before .before .before .before .before .before .before .before .before .before .before .before .before .before .before .before .before .set-finite .ensures)
+          (c .before .before .before .before .before .before .before .before .before .before .before .before .before .before .before .before .before .if2 .left),
       eq-eqb _ _ (c .before .before .before .before .before .before .before .before .before .before .before .before .before .before .before .if3 .left),
       le-leb _ _ (c .before .before .before .before .before .before .before .before .before .before .before .before .before .before .if4 .left),
       ← c .before .before .before .before .before .before .before .before .before .before .before .before .lag-for .ensures,

@@ -38,7 +38,12 @@ in-range-requires : tie.Need-in-range-requires Inv-loop μ-loop
 in-range-requires c κs = search needs
 
 returns : tie.Need-returns Inv-loop μ-loop
-returns c = rw (c .before .before .before .before .loop .inv .2, rest (c .before .before .before .before .before .before .args .s .now) (c .before .before .before .before .loop .i) (search needs), failed (c .before .in-range .ensures) (c .if1 .taken))
+returns c =
+    rw (
+      c .before .before .before .before .loop .inv .2,
+      rest (c .before .before .before .before .before .before .args .s .now) (c .before .before .before .before .loop .i) (search needs),
+      failed (c .before .in-range .ensures) (c .if1 .taken),
+    )
 
 add-i : tie.Need-add-i Inv-loop μ-loop
 add-i c = search needs
@@ -47,7 +52,15 @@ loop-less : tie.Need-loop-less Inv-loop μ-loop
 loop-less c = search needs
 
 loop-again : tie.Need-loop-again Inv-loop μ-loop
-loop-again c = (search needs, search needs, c .before .before .before .before .loop .inv .2 ∙ rw (rest (c .before .before .before .before .before .before .args .s .now) (c .before .before .before .before .loop .i) (search needs), passed (c .before .in-range .ensures) (c .if1 .left)))
+loop-again c = (
+  search needs,
+  search needs,
+  c .before .before .before .before .loop .inv .2
+      ∙ rw (
+        rest (c .before .before .before .before .before .before .args .s .now) (c .before .before .before .before .loop .i) (search needs),
+        passed (c .before .in-range .ensures) (c .if1 .left),
+      ),
+)
 
 returns-2 : tie.Need-returns-2 Inv-loop μ-loop
 returns-2 c =

@@ -16,7 +16,12 @@ den-row-requires : tie.Need-den-row-requires
 den-row-requires c κs = search needs
 
 mul-result : tie.Need-mul-result
-mul-result c = omega (arith, c .den-row .ensures, rows-fit (c .before .before .before .before .before .before .args .config .fs) (c .before .before .before .before .before .before .pre .1))
+mul-result c =
+    omega (
+      arith,
+      c .den-row .ensures,
+      rows-fit (c .before .before .before .before .before .before .args .config .fs) (c .before .before .before .before .before .before .pre .1),
+    )
 
 returns : tie.Need-returns
 returns c = rw (← c .before .before .num-row .ensures, ← c .den-row .ensures, eq-eqb _ _ (c .before .if1 .taken))

@@ -23,13 +23,25 @@ returns : tie.Need-returns
 returns c = rw (c .before .before .before .before .pitch .given .1, ← c .before .before .compute-filter-parameters .ensures, c .enum-told2 .given .1)
 
 returns-2 : tie.Need-returns-2
-returns-2 c = rw (c .before .before .before .before .before .before .pitch .given .1, ← c .before .before .before .before .compute-filter-parameters .ensures, c .before .before .lag .given .1, c .if1 .taken)
+returns-2 c =
+    rw (
+      c .before .before .before .before .before .before .pitch .given .1,
+      ← c .before .before .before .before .compute-filter-parameters .ensures,
+      c .before .before .lag .given .1,
+      c .if1 .taken,
+    )
 
 returns-3 : tie.Need-returns-3
 returns-3 c = rw (c .enum-told .given .1)
 
 returns-4 : tie.Need-returns-4
-returns-4 c = rw (c .before .before .before .before .before .before .pitch .given .1, ← c .before .before .before .before .compute-filter-parameters .ensures, c .before .before .lag .given .1, c .if1 .left)
+returns-4 c =
+    rw (
+      c .before .before .before .before .before .before .pitch .given .1,
+      ← c .before .before .before .before .compute-filter-parameters .ensures,
+      c .before .before .lag .given .1,
+      c .if1 .left,
+    )
 
 pub lag-for-spec : {M : Type 1} → statement M
 lag-for-spec =

@@ -57,7 +57,9 @@ loop-again c = (
   search needs,
   search needs,
   simp length-set (omega arith),
-  rw (c .before .before .loop .inv .3) (put-more (c .before .before .before .args .into .now) (c .before .before .before .args .block .now) _ (c .before .before .loop .i) (search needs) (search needs)),
+  rw (c .before .before .loop .inv .3)
+      (put-more (c .before .before .before .args .into .now) (c .before .before .before .args .block .now) _ (c .before .before .loop .i) (search needs)
+      (search needs)),
 )
 
 same-length : tie.Need-same-length Inv-loop μ-loop

@@ -35,7 +35,13 @@ slice-aggregate-put-3 : tie.Need-slice-aggregate-put-3
 slice-aggregate-put-3 c = sym (length-take-le _ (c .before .before .before .before .before .before .before .before .args .ring .now) (omega arith))
 
 put-requires-2 : tie.Need-put-requires-2
-put-requires-2 c κs = omega (arith, length-take-le (c .before .before .before .before .before .before .before .before .args .block-start-index) (c .before .before .before .before .before .before .before .before .args .ring .now) (omega arith), c .before .before .before .put .kept .0)
+put-requires-2 c κs =
+    omega (
+      arith,
+      length-take-le (c .before .before .before .before .before .before .before .before .args .block-start-index)
+          (c .before .before .before .before .before .before .before .before .args .ring .now) (omega arith),
+      c .before .before .before .put .kept .0,
+    )
 
 slice-aggregate-put-4 : tie.Need-slice-aggregate-put-4
 slice-aggregate-put-4 c = search needs
@@ -48,7 +54,8 @@ returns c =
     let s = c .before .before .before .before .before .before .before .before .before .before .before .before .before in
     straightened _ _ _ _ (s .args .ring .now) (s .args .frame .now) (s .args .history) (s .args .block-start-index)
     (omega arith) (omega arith) (omega arith)
-    (c .before .before .before .before .before .before .before .before .put .ensures) (c .before .before .before .before .put2 .ensures) (c .before .put3 .ensures)
+    (c .before .before .before .before .before .before .before .before .put .ensures) (c .before .before .before .before .put2 .ensures)
+    (c .before .put3 .ensures)
 
 pub straighten-spec : {M : Type 1} → statement M
 straighten-spec =

@@ -21,7 +21,8 @@ returns : tie.Need-returns
 returns c =
     let s = c .before .before .before .before .before .before .before .before .before .before in
     c .before .before .filter-rest .ensures
-    ∙ rw (c .before .before .before .before .before .before .filter-fade .ensures) (activated-line (s .args .fade) (s .args .history) (s .args .x .now) (s .args .y .now) (s .pre .0) _)
+    ∙ rw (c .before .before .before .before .before .before .filter-fade .ensures)
+    (activated-line (s .args .fade) (s .args .history) (s .args .x .now) (s .args .y .now) (s .pre .0) _)
 
 pub activated-spec : {M : Type 1} → statement M
 activated-spec =

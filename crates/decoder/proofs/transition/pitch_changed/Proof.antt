@@ -10,7 +10,10 @@ use Rattle.decoder.proofs.transition.pitch_changed.Statement.{statement
 use Rattle.decoder.proofs.transition.pitch_changed.Tie as tie
 
 -- what is set aside reaches to the end of the fade
-aside : (c : tie.After-set-aside) → length (take (c .before .before .before .before .before .before .before .before .args .history + c .before .before .before .before .before .before .before .before .args .fade) (c .set-aside .result)) ≡ c .before .before .before .before .before .before .before .before .args .history + c .before .before .before .before .before .before .before .before .args .fade
+aside : (c : tie.After-set-aside) →
+    length (take
+    (c .before .before .before .before .before .before .before .before .args .history + c .before .before .before .before .before .before .before .before .args .fade) (c .set-aside .result))
+    ≡ c .before .before .before .before .before .before .before .before .args .history + c .before .before .before .before .before .before .before .before .args .fade
 aside c = rw (c .set-aside .ensures) (length-take-le _ _ (omega (arith, c .before .before .before .before .filter-fade .kept .1 .1 .1 .0)))
 
 add-faded : tie.Need-add-faded
@@ -30,8 +33,12 @@ slice-aggregate-filter-fade c = sym (aside (c .before))
 
 filter-fade-requires-2 : tie.Need-filter-fade-requires-2
 filter-fade-requires-2 c κs =
-    let s = c .before .before .before .before .before .before .before .before .before .before in
-    (s .pre .2, search needs, omega (arith, aside (c .before .before)), omega (arith, aside (c .before .before), c .before .before .before .before .before .before .filter-fade .kept .1 .1 .1 .0))
+    let s = c .before .before .before .before .before .before .before .before .before .before in (
+      s .pre .2,
+      search needs,
+      omega (arith, aside (c .before .before)),
+      omega (arith, aside (c .before .before), c .before .before .before .before .before .before .filter-fade .kept .1 .1 .1 .0),
+    )
 
 filter-rest-requires : tie.Need-filter-rest-requires
 filter-rest-requires c κs = search needs
@@ -43,7 +50,9 @@ returns : tie.Need-returns
 returns c =
     let s = c .before .before .before .before .before .before .before .before .before .before .before .before .before .before .before .before .before in
     changed-line (s .args .fade) (s .args .history) (s .args .x .now) (s .args .y .now) (s .pre .0) (s .args .old) (s .args .new) _ _ _ _
-    (c .before .before .before .before .before .before .before .before .before .before .before .before .before .filter-fade .ensures) (c .before .before .before .before .before .before .before .before .before .set-aside .ensures) (c .before .before .before .before .before .before .filter-fade2 .ensures) (c .before .before .filter-rest .ensures)
+    (c .before .before .before .before .before .before .before .before .before .before .before .before .before .filter-fade .ensures)
+    (c .before .before .before .before .before .before .before .before .before .set-aside .ensures)
+    (c .before .before .before .before .before .before .filter-fade2 .ensures) (c .before .before .filter-rest .ensures)
 
 pub pitch-changed-spec : {M : Type 1} → statement M
 pitch-changed-spec =

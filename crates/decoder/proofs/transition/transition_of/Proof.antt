@@ -6,11 +6,23 @@ use Rattle.decoder.proofs.transition.transition_of.Tie as tie
 
 returns : tie.Need-returns
 unfolding transitionOf
-returns c = rw (c .before .before .before .before .before .before .before .if1 .taken, c .before .before .before .before .before .before .if2 .taken, eq-eqb _ _ (c .before .before .before .if3 .taken), eq-eqb _ _ (c .if4 .taken))
+returns c =
+    rw (
+      c .before .before .before .before .before .before .before .if1 .taken,
+      c .before .before .before .before .before .before .if2 .taken,
+      eq-eqb _ _ (c .before .before .before .if3 .taken),
+      eq-eqb _ _ (c .if4 .taken),
+    )
 
 returns-2 : tie.Need-returns-2
 unfolding transitionOf
-returns-2 c = rw (c .before .before .before .before .before .before .before .if1 .taken, c .before .before .before .before .before .before .if2 .taken, eq-eqb _ _ (c .before .before .before .if3 .taken), ne-eqb _ _ (c .if4 .left))
+returns-2 c =
+    rw (
+      c .before .before .before .before .before .before .before .if1 .taken,
+      c .before .before .before .before .before .before .if2 .taken,
+      eq-eqb _ _ (c .before .before .before .if3 .taken),
+      ne-eqb _ _ (c .if4 .left),
+    )
 
 returns-3 : tie.Need-returns-3
 unfolding transitionOf
