@@ -51,7 +51,7 @@ fn filter_samples<'a>(
 }
 
 // Filters the samples and gives the state after them.
-pub fn accept(
+pub(crate) fn accept(
     decoder: Decoder,
     config: Lc3Config,
     active: bool,

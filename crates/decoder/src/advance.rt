@@ -12,7 +12,7 @@ ghost use Rattle.decoder.specs.State.{settledLimit, runAfter, settledAft
 ghost use Rattle.decoder.specs.Frame.{oldTaps, nextState};
 
 // The filter of the previous frame.
-pub fn kept_filter(decoder: Decoder, fs: Rate) -> Taps
+pub(crate) fn kept_filter(decoder: Decoder, fs: Rate) -> Taps
     ensures { λ r. ⌜ r ≡ oldTaps fs decoder ⌝ }
 {
     let c_num = decoder.c_num;
@@ -52,7 +52,7 @@ fn settled_after(n_ms: FrameDuration, settled: bool, run: u32) -> bool
 }
 
 // The state after a frame with this filter, its two rings not yet stored into.
-pub fn advance(decoder: Decoder, config: Lc3Config, active: bool, new: Taps) -> Decoder
+pub(crate) fn advance(decoder: Decoder, config: Lc3Config, active: bool, new: Taps) -> Decoder
     requires { ⌜ (decoder .run ≤ settledLimit (config .«n_ms»)) × (decoder .«block_start_index» + config .nf ≤ 1440) ⌝ }
     ensures { λ r. ⌜ r ≡ nextState decoder config active new (decoder .«x_hat_mem») (decoder .«x_hat_ltpf_mem») ⌝ }
 {

@@ -24,7 +24,7 @@ pub struct Taps {
 }
 
 // The entries of a lent numerator row. 44100 is lent the rows of 48000.
-pub fn num_row(fs: Rate) -> usize
+pub(crate) fn num_row(fs: Rate) -> usize
     requires { ⌜ 1 ≤ fs .«l_den» ⌝ }
     ensures { λ r. ⌜ r ≡ numRow fs ⌝ }
 {
@@ -35,7 +35,7 @@ pub fn num_row(fs: Rate) -> usize
 }
 
 // The entries of a lent denominator row.
-pub fn den_row(fs: Rate) -> usize
+pub(crate) fn den_row(fs: Rate) -> usize
     requires { ⌜ fs .«l_den» ≤ 12 ⌝ }
     ensures { λ r. ⌜ r ≡ denRow fs ⌝ }
 {
@@ -121,7 +121,7 @@ fn no_filter(fs: Rate) -> Taps
 }
 
 // The filter of a frame, by whether it is active, and by its lag and its bits.
-pub fn compute_filter_coeffs(
+pub(crate) fn compute_filter_coeffs(
     config: Lc3Config,
     active: bool,
     lag: Lag,

@@ -28,7 +28,7 @@ fn fade_factor(direction: Direction, n: usize, fade: usize) -> f32
 }
 
 // Outputs over the fade, behind a history: x less the faded filter.
-pub fn filter_fade(
+pub(crate) fn filter_fade(
     direction: Direction,
     taps: Taps,
     x: &[f32],
@@ -47,7 +47,7 @@ pub fn filter_fade(
 }
 
 // Outputs from one sample on, to the end of x: x less the filter.
-pub fn filter_rest(taps: Taps, x: &[f32], y: &mut [f32], from: usize)
+pub(crate) fn filter_rest(taps: Taps, x: &[f32], y: &mut [f32], from: usize)
     requires { ⌜ Inside taps from × (from ≤ length (now x)) × (length (now x) ≤ length (now y)) ⌝ }
     ensures { λ _. ⌜ now (y .exit) ≡ grown (steady taps (now (x .entry))) (now (y .entry)) from (length (now (x .entry)) - from) ⌝ }
 {

@@ -31,7 +31,7 @@ fn denominator_sum(start: f32, c_den: &[f32; 13], terms: usize, y: &[f32], at: u
 }
 
 // F at one sample: x is the input and y the output so far, both with their past in front.
-pub fn compute_filter(taps: Taps, x: &[f32], y: &[f32], at: usize) -> f32
+pub(crate) fn compute_filter(taps: Taps, x: &[f32], y: &[f32], at: usize) -> f32
     requires { ⌜ Inside taps at × (at < length (now x)) × (at ≤ length (now y)) ⌝ }
     ensures { λ r. ⌜ r ≡ F taps (now (x .entry)) (now (y .entry)) at ⌝ }
 {

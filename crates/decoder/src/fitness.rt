@@ -13,7 +13,7 @@ ghost use Prim.Native.Nat.{_<_};
 ghost use Rattle.decoder.specs.State.{settledLimit, blockFits, lagFits, runFits, fitConfig};
 
 // How many inactive frames in a row settle a decoder.
-pub fn settled_limit(n_ms: FrameDuration) -> u32
+pub(crate) fn settled_limit(n_ms: FrameDuration) -> u32
     ensures { λ r. ⌜ r ≡ settledLimit «n_ms» ⌝ }
 {
     match n_ms {
@@ -70,7 +70,7 @@ fn run_fits(n_ms: FrameDuration, active: bool, run: u32, settled: bool) -> bool
 }
 
 // The configuration of a fit state. An unfit one is refused.
-pub fn fit_config(decoder: Decoder) -> Configured
+pub(crate) fn fit_config(decoder: Decoder) -> Configured
     ensures { λ r. ⌜ r ≡ fitConfig decoder ⌝ }
 {
     let Configured::Config(config) = config(decoder.rate, decoder.duration) else {

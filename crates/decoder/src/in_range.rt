@@ -13,7 +13,7 @@ fn in_range(x: f32) -> bool
 }
 
 // Whether every sample is.
-pub fn all_in_range(s: &[f32]) -> bool
+pub(crate) fn all_in_range(s: &[f32]) -> bool
     ensures { λ r. ⌜ r ≡ allInRange (now (s .entry)) ⌝ }
 {
     for i in 0..s.len() {

@@ -8,7 +8,7 @@ ghost use Prim.Native.Nat.{_≤_};
 ghost use Rattle.decoder.specs.Frame.{setCounts, setFinite};
 
 // Whether each slice has four rows.
-pub fn set_counts(config: Lc3Config, numerators: &[f32], denominators: &[f32]) -> bool
+pub(crate) fn set_counts(config: Lc3Config, numerators: &[f32], denominators: &[f32]) -> bool
     requires { ⌜ (1 ≤ config .fs .«l_den») × (config .fs .«l_den» ≤ 12) ⌝ }
     ensures { λ r. ⌜ r ≡ setCounts config (now (numerators .entry)) (now (denominators .entry)) ⌝ }
 {
@@ -20,7 +20,7 @@ pub fn set_counts(config: Lc3Config, numerators: &[f32], denominators: &[f32]) -
 }
 
 // Whether each entry, used or not, is a number.
-pub fn set_finite(numerators: &[f32], denominators: &[f32]) -> bool
+pub(crate) fn set_finite(numerators: &[f32], denominators: &[f32]) -> bool
     ensures { λ r. ⌜ r ≡ setFinite (now (numerators .entry)) (now (denominators .entry)) ⌝ }
 {
     if all_finite(numerators) {

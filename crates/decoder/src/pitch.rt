@@ -8,7 +8,7 @@ ghost use mathlib.Core.Path.{_≡_};
 ghost use Rattle.decoder.specs.Pitch.{isActive, lagFor};
 
 // Whether the record switches the filter on.
-pub fn is_active(pitch: PitchRecord) -> bool
+pub(crate) fn is_active(pitch: PitchRecord) -> bool
     ensures { λ r. ⌜ r ≡ isActive pitch ⌝ }
 {
     match pitch {
@@ -18,7 +18,7 @@ pub fn is_active(pitch: PitchRecord) -> bool
 }
 
 // The lag of a frame, 0 where the filter is off. An index too large has none, active or not.
-pub fn lag_for(fs: Rate, pitch: PitchRecord) -> FoundLag
+pub(crate) fn lag_for(fs: Rate, pitch: PitchRecord) -> FoundLag
     ensures { λ r. ⌜ r ≡ lagFor fs pitch ⌝ }
 {
     let none = Lag {

@@ -6,7 +6,7 @@ ghost use lib.ListN.{length, take};
 ghost use Rattle.decoder.specs.Ring.{straight, stored, nextBlock};
 
 // Copies a block into a slice, from the place given.
-pub fn put(into: &mut [f32], at: usize, block: &[f32])
+pub(crate) fn put(into: &mut [f32], at: usize, block: &[f32])
     requires { ⌜ at + length (now block) ≤ length (now into) ⌝ }
     ensures { λ _. ⌜ now (into .exit) ≡ stored (now (into .entry)) at (now (block .entry)) ⌝ }
 {
@@ -16,7 +16,7 @@ pub fn put(into: &mut [f32], at: usize, block: &[f32])
 }
 
 // The past, oldest sample first, with a frame behind it.
-pub fn straighten(
+pub(crate) fn straighten(
     ring: &[f32],
     history: usize,
     block_start_index: usize,
@@ -37,7 +37,7 @@ pub fn straighten(
 }
 
 // Stores a frame into its block.
-pub fn store(ring: &mut [f32; 1080], block_start_index: usize, frame: &[f32])
+pub(crate) fn store(ring: &mut [f32; 1080], block_start_index: usize, frame: &[f32])
     requires { ⌜ «block_start_index» + length (now frame) ≤ 1080 ⌝ }
     ensures { λ _. ⌜ now (ring .exit) ≡ stored (now (ring .entry)) «block_start_index» (now (frame .entry)) ⌝ }
 {
@@ -45,7 +45,7 @@ pub fn store(ring: &mut [f32; 1080], block_start_index: usize, frame: &[f32])
 }
 
 // Where the next block starts: behind this one, or at the front again.
-pub fn next_block(history: usize, nf: usize, block_start_index: usize) -> usize
+pub(crate) fn next_block(history: usize, nf: usize, block_start_index: usize) -> usize
     requires { ⌜ «block_start_index» + nf ≤ 1440 ⌝ }
     ensures { λ r. ⌜ r ≡ nextBlock history nf «block_start_index» ⌝ }
 {

@@ -25,7 +25,7 @@ pub enum Transition {
 }
 
 // The case of a frame, by the previous frame, this one and their lags.
-pub fn transition_of(active_prev: bool, active: bool, lag_prev: Lag, lag: Lag) -> Transition
+pub(crate) fn transition_of(active_prev: bool, active: bool, lag_prev: Lag, lag: Lag) -> Transition
     ensures { λ r. ⌜ r ≡ transitionOf «active_prev» active «lag_prev» lag ⌝ }
 {
     if active_prev {
@@ -97,7 +97,7 @@ fn pitch_changed(old: Taps, new: Taps, x: &[f32], y: &mut [f32], history: usize,
 }
 
 // The outputs of a frame, by its case.
-pub fn filter_frame(
+pub(crate) fn filter_frame(
     transition: Transition,
     old: Taps,
     new: Taps,

@@ -34,7 +34,7 @@ fn is_finite(resampling: &[f32], correlation: &[f32], signal: &[f32]) -> bool
 }
 
 // The configuration by which a frame is encoded, or the first answer that refuses it.
-pub fn accept(
+pub(crate) fn accept(
     e: Encoder,
     resampling: &[f32],
     correlation: &[f32],

@@ -149,7 +149,7 @@ fn is_active(
 }
 
 // The activation of a frame, with the correlation and the lag that the next frame remembers.
-pub fn activation_bit(
+pub(crate) fn activation_bit(
     x: &[f32; 404],
     start: usize,
     len12p8: usize,

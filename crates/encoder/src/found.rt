@@ -67,7 +67,7 @@ fn is_ten_ms(n_ms: FrameDuration) -> bool
 }
 
 // What is found in a frame: x is its signal at 12.8 kHz, d what the pitch search detected.
-pub fn found_in(
+pub(crate) fn found_in(
     c: Lc3Config,
     l: Lengths,
     x: &[f32; 404],

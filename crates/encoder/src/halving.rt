@@ -17,7 +17,7 @@ fn five_taps(x: &[f32; 404], first: usize) -> f32
 }
 
 // Writes the frame's len6p4 samples at 6.4 kHz behind the 114 of history in out.
-pub fn halve(x: &[f32; 404], start: usize, out: &mut [f32; 178], len6p4: usize)
+pub(crate) fn halve(x: &[f32; 404], start: usize, out: &mut [f32; 178], len6p4: usize)
     requires { ⌜ (3 ≤ start) × (start + 2 * len6p4 ≤ 404) ⌝ }
     requires { ⌜ len6p4 ≤ 64 ⌝ }
     ensures { λ r. ⌜ now (out .exit) ≡ written (now (out .entry)) 114 (halved (now (x .entry)) start) len6p4 ⌝ }

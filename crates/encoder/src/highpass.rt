@@ -11,7 +11,7 @@ pub struct HighPass {
 }
 
 // Filters the len12p8 new samples of x in place, and gives the memories back.
-pub fn high_pass(h: HighPass, x: &mut [f32; 404], len12p8: usize) -> HighPass
+pub(crate) fn high_pass(h: HighPass, x: &mut [f32; 404], len12p8: usize) -> HighPass
     requires { ⌜ len12p8 ≤ 128 ⌝ }
     ensures after { λ r. ⌜ r ≡ memories h (window (now (x .entry)) 276) len12p8 ⌝ }
     ensures signal { λ r. ⌜ now (x .exit) ≡ highPassed h (now (x .entry)) len12p8 ⌝ }

@@ -148,7 +148,7 @@ fn lag_among(r_12p8: &[f32], from: usize, interpolation: &[f32]) -> LagParameter
 
 // The lag at 12.8 kHz near twice the lag at 6.4 kHz. The correlations reach four lags past either
 // end, for the interpolation.
-pub fn pitch_lag_parameter(
+pub(crate) fn pitch_lag_parameter(
     x: &[f32; 404],
     start: usize,
     len12p8: usize,

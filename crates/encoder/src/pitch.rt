@@ -131,7 +131,7 @@ fn lag_t2(r_6p4: &[f32], t_prev: usize) -> usize
 
 // The lag of a frame, and whether it has a pitch. The second lag wins only above 0.85 times the
 // first; a pitch is present only above 0.6.
-pub fn pitch_detection(x_6p4: &[f32; 178], len6p4: usize, t_prev: usize) -> Detected
+pub(crate) fn pitch_detection(x_6p4: &[f32; 178], len6p4: usize, t_prev: usize) -> Detected
     requires { ⌜ («len6p4» ≤ 64) × (17 ≤ «t_prev») × («t_prev» ≤ 114) ⌝ }
     ensures { λ r. ⌜ r ≡ detected (now («x_6p4» .entry)) «len6p4» «t_prev» ⌝ }
 {

@@ -35,7 +35,13 @@ fn scale_of(p: usize) -> f32
 }
 
 // Writes the frame's len12p8 samples at 12.8 kHz behind the 276 of history in out.
-pub fn resample(x: &[f32; 540], p: usize, filter: &[f32], out: &mut [f32; 404], len12p8: usize)
+pub(crate) fn resample(
+    x: &[f32; 540],
+    p: usize,
+    filter: &[f32],
+    out: &mut [f32; 404],
+    len12p8: usize,
+)
     requires { ⌜ (4 ≤ p) × (p ≤ 24) ⌝ }
     requires { ⌜ len12p8 ≤ 128 ⌝ }
     requires { ⌜ length (now filter) ≡ 239 ⌝ }

@@ -27,7 +27,7 @@ pub struct Signals {
 }
 
 // The lengths at a duration.
-pub fn lengths_of(n_ms: FrameDuration) -> Lengths
+pub(crate) fn lengths_of(n_ms: FrameDuration) -> Lengths
     ensures { λ r. ⌜ r ≡ lengthsOf «n_ms» ⌝ }
 {
     match n_ms {
@@ -87,7 +87,7 @@ fn at_6p4(past: &[f32; 114], x: &[f32; 404], start: usize, len6p4: usize) -> [f3
 }
 
 // The three signals of a frame of an encoder, and the high-pass's memories after it.
-pub fn signals_of(e: Encoder, p: usize, l: Lengths, filter: &[f32], frame: &[i16]) -> Signals
+pub(crate) fn signals_of(e: Encoder, p: usize, l: Lengths, filter: &[f32], frame: &[i16]) -> Signals
     requires { ⌜ (4 ≤ p) × (p ≤ 24) ⌝ }
     requires { ⌜ (3 ≤ l .start) × (l .start + 2 * l .«len6p4» ≤ 404) × (l .«len6p4» ≤ 64) × (l .«len12p8» ≤ 128) ⌝ }
     requires { ⌜ length (now filter) ≡ 239 ⌝ }

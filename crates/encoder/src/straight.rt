@@ -7,7 +7,7 @@ ghost use Rattle.encoder.specs.Sums.{window};
 ghost use Rattle.encoder.specs.Straight.{written, laid, sampled};
 
 // Copies n entries of x, from start on, to the front of out.
-pub fn copy(x: &[f32], start: usize, n: usize, out: &mut [f32])
+pub(crate) fn copy(x: &[f32], start: usize, n: usize, out: &mut [f32])
     requires { ⌜ (start + n ≤ length (now x)) × (n ≤ length (now out)) ⌝ }
     ensures { λ r. ⌜ now (out .exit) ≡ written (now (out .entry)) 0 (window (now (x .entry)) start) n ⌝ }
 {
@@ -17,7 +17,7 @@ pub fn copy(x: &[f32], start: usize, n: usize, out: &mut [f32])
 }
 
 // Writes a frame's samples, each as a float, behind the 60 of history in out.
-pub fn take_in(frame: &[i16], out: &mut [f32; 540])
+pub(crate) fn take_in(frame: &[i16], out: &mut [f32; 540])
     requires { ⌜ length (now frame) ≤ 480 ⌝ }
     ensures { λ r. ⌜ now (out .exit) ≡ written (now (out .entry)) 60 (sampled (now (frame .entry))) (length (now (frame .entry))) ⌝ }
 {
@@ -27,7 +27,7 @@ pub fn take_in(frame: &[i16], out: &mut [f32; 540])
 }
 
 // The 60 entries of x from start on.
-pub fn last_60(x: &[f32; 540], start: usize) -> [f32; 60]
+pub(crate) fn last_60(x: &[f32; 540], start: usize) -> [f32; 60]
     requires { ⌜ start ≤ 480 ⌝ }
     ensures { λ r. ⌜ r ≡ laid 60 (now (x .entry)) start 60 ⌝ }
 {
@@ -37,7 +37,7 @@ pub fn last_60(x: &[f32; 540], start: usize) -> [f32; 60]
 }
 
 // The 276 entries of x from start on.
-pub fn last_276(x: &[f32; 404], start: usize) -> [f32; 276]
+pub(crate) fn last_276(x: &[f32; 404], start: usize) -> [f32; 276]
     requires { ⌜ start ≤ 128 ⌝ }
     ensures { λ r. ⌜ r ≡ laid 276 (now (x .entry)) start 276 ⌝ }
 {
@@ -47,7 +47,7 @@ pub fn last_276(x: &[f32; 404], start: usize) -> [f32; 276]
 }
 
 // The 114 entries of x from start on.
-pub fn last_114(x: &[f32; 178], start: usize) -> [f32; 114]
+pub(crate) fn last_114(x: &[f32; 178], start: usize) -> [f32; 114]
     requires { ⌜ start ≤ 64 ⌝ }
     ensures { λ r. ⌜ r ≡ laid 114 (now (x .entry)) start 114 ⌝ }
 {

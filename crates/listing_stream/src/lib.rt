@@ -13,7 +13,7 @@ pub struct Pumped {
 }
 
 // Writes text, or says why it cannot.
-pub fn write_out(text: &[u8]) -> bool {
+fn write_out(text: &[u8]) -> bool {
     let is_written = io::write_all(STDOUT_FILENO, text);
     if !is_written {
         os::fail(b"standard output");
@@ -66,9 +66,15 @@ pub fn pump(from: Listing, input: &[u8], out: &mut [u8]) -> Pumped
     }
 }
 
-// Writes what is left at the end of the input, and answers whether that went well.
-pub fn end(listing: Listing) -> bool {
+// Writes what is left at the end of the input.
+pub fn end(listing: Listing) -> Pumped
+    ensures { λ r. ⌜ r .listing ≡ listing ⌝ }
+{
     let mut text = [0u8; 128];
     let n = listing.finish(&mut text);
-    write_out(&text[..n])
+    let is_written = write_out(&text[..n]);
+    Pumped {
+        listing,
+        failed: !is_written,
+    }
 }
