@@ -84,7 +84,7 @@ start-fits rate duration c e =
 pub lost-fits : (d : Decoder) (c : Lc3Config) → fit c d ≡ true → fit c (unsettled d) ≡ true
 lost-fits d c h =
     let t = both (blockFits c (d .«block_start_index») && lagFits (c .fs) (d .«ltpf_active_prev») (d .lag)) _ h in
-    rw (t .0, empty-run (c .«n_ms») (d .«ltpf_active_prev») false)
+    rw (t .0, empty-run (c .«n_ms») (d .«ltpf_active_prev»))
 
 module _ {d : Decoder} {c : Lc3Config} {active : Bool} {lag : Lag} {nums dens frame : List Float} (h : Checked d c active lag nums dens frame) where
   -- an accepted frame gives a fit state
@@ -97,7 +97,7 @@ module _ {d : Decoder} {c : Lc3Config} {active : Bool} {lag : Lag} {nums dens fr
       rw (
         next-block c start (omega (arith, sizes h)) (omega (arith, h .count)) multiple,
         next-lag c active lag nbits nums dens (h .lag-fits),
-        next-run (c .«n_ms») active (d .run) (d .settled),
+        next-run (c .«n_ms») active,
       )
 
   -- and moves a past along by its frame

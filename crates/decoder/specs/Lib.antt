@@ -9,3 +9,4 @@ pub mod InRange
 pub mod State
 pub mod Frame
 pub mod Required
+pub mod Calls

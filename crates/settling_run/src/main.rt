@@ -1,0 +1,105 @@
+// How many inactive frames settle a decoder, by a run at 8000 Hz. Two decoders differ in the samples
+// of their first active frame. Then both are given equal frames: active ones, some inactive ones, and
+// one more active frame, whose outputs are compared.
+use decoder::frame::Framed;
+use decoder::frame::frame;
+use decoder::state::Decoder;
+use decoder::state::start;
+use lag::pitch::PitchRecord;
+use lag::pitch::Present;
+use libc::STDOUT_FILENO;
+ghost use mathlib.Core.Path.{_≡_};
+ghost use Prim.Native.Nat.{_≤_};
+ghost use lib.ListN.{length};
+
+// One frame, with numerators of 0.0, denominators of 1.0 and the longest lag, 142 samples.
+fn step(decoder: Decoder, active: bool, nf: usize, samples: &mut [f32]) -> Framed
+    requires { ⌜ nf ≤ length (now samples) ⌝ }
+    ensures { λ _. ⌜ length (now (samples .exit)) ≡ length (now (samples .entry)) ⌝ }
+{
+    let numerators = [0.0; 12];
+    let denominators = [1.0; 20];
+    let pitch = PitchRecord::Present(Present { index: 511, active });
+    frame(
+        decoder,
+        &numerators,
+        &denominators,
+        pitch,
+        300,
+        &mut samples[..nf],
+    )
+}
+
+// The state after so many frames of samples 1.0.
+fn stepped(decoder: Decoder, active: bool, nf: usize, count: usize) -> Decoder
+    requires { ⌜ nf ≤ 80 ⌝ }
+{
+    let mut d = decoder;
+    for _ in 0..count {
+        let mut samples = [1.0; 80];
+        let framed = step(d, active, nf, &mut samples);
+        d = framed.decoder;
+    }
+    d
+}
+
+// A decoder whose first frame, an active one, has the given samples; then active frames and inactive
+// ones.
+fn prepared(duration: u32, nf: usize, first: f32, active: usize, inactive: usize) -> Decoder
+    requires { ⌜ nf ≤ 80 ⌝ }
+{
+    let started = start(8000, duration);
+    let mut samples = [first; 80];
+    let framed = step(started.decoder, true, nf, &mut samples);
+    let d = stepped(framed.decoder, true, nf, active);
+    stepped(d, false, nf, inactive)
+}
+
+// 1 where two samples differ.
+fn difference(a: f32, b: f32) -> u64
+    ensures { λ r. ⌜ r ≤ 1 ⌝ }
+{
+    if a != b { 1 } else { 0 }
+}
+
+fn differing(a: &[f32; 80], b: &[f32; 80]) -> u64 {
+    let mut n: u64 = 0;
+    for i in 0..80 {
+        n += difference(a[i], b[i]);
+    }
+    n
+}
+
+fn report(duration: u32, inactive: usize, settled: bool, differ: u64) {
+    io::print_decimal(STDOUT_FILENO, duration as u64);
+    io::write_all(STDOUT_FILENO, b" us, inactive frames ");
+    io::print_decimal(STDOUT_FILENO, inactive as u64);
+    if settled {
+        io::write_all(STDOUT_FILENO, b": settled yes, samples that differ ");
+    } else {
+        io::write_all(STDOUT_FILENO, b": settled no, samples that differ ");
+    }
+    io::print_decimal(STDOUT_FILENO, differ);
+    io::write_all(STDOUT_FILENO, b"\n");
+}
+
+// The outputs of an equal active frame after so many equal inactive ones.
+fn compare(duration: u32, nf: usize, active: usize, inactive: usize)
+    requires { ⌜ nf ≤ 80 ⌝ }
+{
+    let a = prepared(duration, nf, 1.0, active, inactive);
+    let b = prepared(duration, nf, 2.0, active, inactive);
+    let mut x = [1.0; 80];
+    let mut y = [1.0; 80];
+    step(a, true, nf, &mut x);
+    step(b, true, nf, &mut y);
+    report(duration, inactive, a.settled, differing(&x, &y));
+}
+
+fn main() {
+    compare(10000, 80, 1, 2);
+    compare(10000, 80, 1, 3);
+    compare(7500, 60, 2, 2);
+    compare(7500, 60, 2, 3);
+    compare(7500, 60, 2, 4);
+}
