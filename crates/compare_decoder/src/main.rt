@@ -1,0 +1,34 @@
+// Compares the decoder with vector files: makes every call that a file lists, and prints where an
+// answer, a settled report or a sample differs from what the file says. The arguments name the files;
+// with none, standard input is read.
+mod calls;
+mod lent;
+mod run;
+
+use libc::STDIN_FILENO;
+use libc::STDOUT_FILENO;
+use run::compare;
+
+fn compare_file(path: &[u8]) {
+    let fd = os::open_read(path);
+    if fd < 0 {
+        os::fail(path);
+        return;
+    }
+    io::write_all(STDOUT_FILENO, path);
+    io::write_all(STDOUT_FILENO, b"\n");
+    compare(fd);
+    libc::close(fd);
+}
+
+fn main() {
+    let n = os::arg_count();
+    if n < 2 {
+        compare(STDIN_FILENO);
+    }
+    let mut path = io::buffer();
+    for i in 1..n {
+        let length = os::arg(i, &mut path);
+        compare_file(&path[..length]);
+    }
+}

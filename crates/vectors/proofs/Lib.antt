@@ -1,0 +1,2 @@
+-- Laws that the proofs of `vectors` share.
+pub mod Filled

@@ -1,0 +1,2 @@
+-- What the contracts of `vectors` cite.
+pub mod Numbers
