@@ -1,5 +1,5 @@
 // What `root_run` must write, by the standard library's `f32::sqrt`, which is IEEE 754's correctly
-// rounded root. Build and run: rustc -O oracle/root/main.rs -o root_oracle && ./root_oracle spread
+// rounded root. Build and run: rustc -O oracle/sqrt/main.rs -o root_oracle && ./root_oracle spread
 
 // Patterns by the rule that crates/root_run/src/main.rt states.
 fn spread() -> Vec<u32> {
