@@ -34,7 +34,7 @@ fn broken(decoder: Decoder, tally: Tally) -> Called {
 }
 
 // A start: the rate and the duration go in, an answer comes out.
-pub fn call_start(fd: i32, decoder: Decoder, tally: Tally) -> Called {
+pub(crate) fn call_start(fd: i32, decoder: Decoder, tally: Tally) -> Called {
     let mut bytes = [0u8; 9];
     if !read_bytes(fd, &mut bytes) {
         return broken(decoder, tally);
@@ -72,7 +72,7 @@ fn compare_samples(tally: Tally, expected: &[f32; 512], got: &[f32; 512], count:
 }
 
 // A loss mark: an answer and the settled report come out.
-pub fn call_lost(fd: i32, decoder: Decoder, tally: Tally) -> Called {
+pub(crate) fn call_lost(fd: i32, decoder: Decoder, tally: Tally) -> Called {
     let mut bytes = [0u8; 2];
     if !read_bytes(fd, &mut bytes) {
         return broken(decoder, tally);
@@ -148,7 +148,7 @@ fn make(lent: Lent, given: Floats, head: &[u8; 12], decoder: Decoder) -> Made {
 
 // A frame: a pitch record, the number of bits and samples go in; an answer, the settled report and
 // samples come out.
-pub fn call_frame(fd: i32, decoder: Decoder, lent: Lent, tally: Tally) -> Called {
+pub(crate) fn call_frame(fd: i32, decoder: Decoder, lent: Lent, tally: Tally) -> Called {
     let mut head = [0u8; 12];
     if !read_bytes(fd, &mut head) {
         return broken(decoder, tally);

@@ -13,7 +13,7 @@ pub struct Lent {
 }
 
 // A set of nothing.
-pub fn nothing() -> Lent {
+pub(crate) fn nothing() -> Lent {
     Lent {
         whole: false,
         numerators: none(),
@@ -22,7 +22,7 @@ pub fn nothing() -> Lent {
 }
 
 // Reads a set: the counts of both tables, then the tables.
-pub fn read_set(fd: i32) -> Lent {
+pub(crate) fn read_set(fd: i32) -> Lent {
     let mut counts = [0u8; 4];
     if !read_bytes(fd, &mut counts) {
         return nothing();

@@ -84,7 +84,7 @@ fn step(fd: i32, run: Run) -> Run {
 
 // Compares the file, and prints the counts. A proved loop has to end, so it counts its turns down, from
 // a number that no file uses up.
-pub fn compare(fd: i32) {
+pub(crate) fn compare(fd: i32) {
     let started = start(48000, 10000);
     let decoder = started.decoder;
     let mut run = Run {

@@ -31,7 +31,7 @@ fn broken(encoder: Encoder, tally: Tally) -> Called {
 }
 
 // A start: the rate and the duration go in, an answer comes out.
-pub fn call_start(fd: i32, encoder: Encoder, tally: Tally) -> Called {
+pub(crate) fn call_start(fd: i32, encoder: Encoder, tally: Tally) -> Called {
     let mut bytes = [0u8; 9];
     if !read_bytes(fd, &mut bytes) {
         return broken(encoder, tally);
@@ -100,7 +100,7 @@ fn make(encoder: Encoder, lent: Lent, head: &[u8; 7], given: Samples) -> Frame {
 
 // A frame: the flag, the number of bits and samples go in; an answer, a pitch record and the number of
 // its bits come out.
-pub fn call_frame(fd: i32, encoder: Encoder, lent: Lent, tally: Tally) -> Called {
+pub(crate) fn call_frame(fd: i32, encoder: Encoder, lent: Lent, tally: Tally) -> Called {
     let mut head = [0u8; 7];
     if !read_bytes(fd, &mut head) {
         return broken(encoder, tally);

@@ -14,7 +14,7 @@ pub struct Lent {
 }
 
 // A set of nothing.
-pub fn nothing() -> Lent {
+pub(crate) fn nothing() -> Lent {
     Lent {
         whole: false,
         resampling: none(),
@@ -24,7 +24,7 @@ pub fn nothing() -> Lent {
 }
 
 // Reads a set: the counts of the three tables, then the tables.
-pub fn read_set(fd: i32) -> Lent {
+pub(crate) fn read_set(fd: i32) -> Lent {
     let mut counts = [0u8; 6];
     if !read_bytes(fd, &mut counts) {
         return nothing();
