@@ -35,6 +35,11 @@ unfoldable pub filtered : Transition → Taps → Taps → Lc3Config → ℕ →
 filtered t old new c start xs ys frame =
     drop (c .history) (outputs t old new (c .fs .fade) (straight xs (c .history) start ++ frame) (straight ys (c .history) start))
 
+-- both rings with the frame's inputs and outputs stored, and the outputs
+abbrev pub filteredRings : Transition → Taps → Taps → Lc3Config → ℕ → List Float → List Float → List Float → List Float × List Float × List Float
+filteredRings t old new c start xs ys frame =
+    (stored xs start frame, stored ys start (filtered t old new c start xs ys frame), filtered t old new c start xs ys frame)
+
 -- the outputs of an accepted frame
 abbrev pub outputsOf : Decoder → Lc3Config → Bool → Taps → List Float → List Float
 outputsOf d c active new frame =

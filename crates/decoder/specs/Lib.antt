@@ -8,5 +8,6 @@ pub mod Pitch
 pub mod InRange
 pub mod State
 pub mod Frame
+pub mod InPlace
 pub mod Required
 pub mod Calls

@@ -55,6 +55,8 @@ pub record Filterable (t : Transition) (old new : Taps) (c : Lc3Config) (start :
   pub block : start ≤ c .history
   pub past-x : c .history ≤ length xs
   pub past-y : c .history ≤ length ys
+  pub room-x : start + length frame ≤ length xs
+  pub room-y : start + length frame ≤ length ys
   pub fade : c .fs .fade ≤ length frame
   pub line : c .history + length frame ≤ 1440
 

@@ -2,22 +2,24 @@
 use crate::coefficients::Taps;
 use crate::fitness::settled_limit;
 use crate::ring::next_block;
-use crate::state::Decoder;
+use crate::state::Registers;
 use rates::config::Lc3Config;
 use rates::duration::FrameDuration;
 use rates::table::Rate;
 ghost use mathlib.Core.Path.{_≡_};
 ghost use Prim.Native.Nat.{_+_, _≤_};
 ghost use Rattle.decoder.specs.State.{settledLimit, runAfter, settledAfter};
+ghost use mathlib.Core.List.{[]};
 ghost use Rattle.decoder.specs.Frame.{oldTaps, nextState};
+ghost use Rattle.decoder.specs.InPlace.{registersOf, bare};
 
 // The filter of the previous frame.
-pub(crate) fn kept_filter(decoder: Decoder, fs: Rate) -> Taps
-    ensures { λ r. ⌜ r ≡ oldTaps fs decoder ⌝ }
+pub(crate) fn kept_filter(registers: Registers, fs: Rate) -> Taps
+    ensures { λ r. ⌜ r ≡ oldTaps fs (bare registers) ⌝ }
 {
-    let c_num = decoder.c_num;
-    let c_den = decoder.c_den;
-    let lag = decoder.lag;
+    let c_num = registers.c_num;
+    let c_den = registers.c_den;
+    let lag = registers.lag;
     Taps {
         l_den: fs.l_den,
         c_num,
@@ -51,30 +53,26 @@ fn settled_after(n_ms: FrameDuration, settled: bool, run: u32) -> bool
     run == settled_limit(n_ms)
 }
 
-// The state after a frame with this filter, its two rings not yet stored into.
-pub(crate) fn advance(decoder: Decoder, config: Lc3Config, active: bool, new: Taps) -> Decoder
-    requires { ⌜ (decoder .run ≤ settledLimit (config .«n_ms»)) × (decoder .«block_start_index» + config .nf ≤ 1440) ⌝ }
-    ensures { λ r. ⌜ r ≡ nextState decoder config active new (decoder .«x_hat_mem») (decoder .«x_hat_ltpf_mem») ⌝ }
+// The registers after a frame with this filter.
+pub(crate) fn advance(registers: Registers, config: Lc3Config, active: bool, new: Taps) -> Registers
+    requires { ⌜ (registers .run ≤ settledLimit (config .«n_ms»)) × (registers .«block_start_index» + config .nf ≤ 1440) ⌝ }
+    ensures { λ r. ⌜ r ≡ registersOf (nextState (bare registers) config active new [] []) ⌝ }
 {
     let n_ms = config.n_ms;
     let c_num = new.c_num;
     let c_den = new.c_den;
     let lag = new.lag;
-    let x_hat_mem = decoder.x_hat_mem;
-    let x_hat_ltpf_mem = decoder.x_hat_ltpf_mem;
-    let run = run_after(n_ms, active, decoder.run);
-    let settled = settled_after(n_ms, decoder.settled, run);
-    let block_start_index = next_block(config.history, config.nf, decoder.block_start_index);
-    Decoder {
-        rate: decoder.rate,
-        duration: decoder.duration,
+    let run = run_after(n_ms, active, registers.run);
+    let settled = settled_after(n_ms, registers.settled, run);
+    let block_start_index = next_block(config.history, config.nf, registers.block_start_index);
+    Registers {
+        rate: registers.rate,
+        duration: registers.duration,
         ltpf_active_prev: active,
         block_start_index,
         c_num,
         c_den,
         lag,
-        x_hat_mem,
-        x_hat_ltpf_mem,
         run,
         settled,
     }

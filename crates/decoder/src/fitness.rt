@@ -1,5 +1,5 @@
 // Which states are fit: those that a start and frames can have led to, and some more.
-use crate::state::Decoder;
+use crate::state::Registers;
 use lag::rescale::Lag;
 use lag::rescale::rescale;
 use rates::answer::Answer;
@@ -11,8 +11,9 @@ use rates::table::Rate;
 ghost use mathlib.Core.Path.{_≡_};
 ghost use Prim.Native.Nat.{_<_};
 ghost use Rattle.decoder.specs.State.{settledLimit, blockFits, lagFits, runFits, fitConfig};
+ghost use Rattle.decoder.specs.InPlace.{bare};
 
-// How many inactive frames in a row settle a decoder.
+// How many inactive frames in a row settle a registers.
 pub(crate) fn settled_limit(n_ms: FrameDuration) -> u32
     ensures { λ r. ⌜ r ≡ settledLimit «n_ms» ⌝ }
 {
@@ -70,23 +71,23 @@ fn run_fits(n_ms: FrameDuration, active: bool, run: u32, settled: bool) -> bool
 }
 
 // The configuration of a fit state. An unfit one is refused.
-pub(crate) fn fit_config(decoder: Decoder) -> Configured
-    ensures { λ r. ⌜ r ≡ fitConfig decoder ⌝ }
+pub(crate) fn fit_config(registers: Registers) -> Configured
+    ensures { λ r. ⌜ r ≡ fitConfig (bare registers) ⌝ }
 {
-    let Configured::Config(config) = config(decoder.rate, decoder.duration) else {
+    let Configured::Config(config) = config(registers.rate, registers.duration) else {
         return Configured::Refused(Answer::UnfitState);
     };
     let fs = config.fs;
     let n_ms = config.n_ms;
-    let active = decoder.ltpf_active_prev;
-    let lag = decoder.lag;
-    if !block_fits(config, decoder.block_start_index) {
+    let active = registers.ltpf_active_prev;
+    let lag = registers.lag;
+    if !block_fits(config, registers.block_start_index) {
         return Configured::Refused(Answer::UnfitState);
     }
     if !lag_fits(fs, active, lag) {
         return Configured::Refused(Answer::UnfitState);
     }
-    if !run_fits(n_ms, active, decoder.run, decoder.settled) {
+    if !run_fits(n_ms, active, registers.run, registers.settled) {
         return Configured::Refused(Answer::UnfitState);
     }
     Configured::Config(config)

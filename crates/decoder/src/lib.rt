@@ -10,6 +10,8 @@ pub mod frame;
 mod in_range;
 mod lent;
 mod pitch;
+mod registers;
 mod ring;
+mod samples;
 pub mod state;
 mod transition;

@@ -37,8 +37,8 @@ pub(crate) fn straighten(
 }
 
 // Stores a frame into its block.
-pub(crate) fn store(ring: &mut [f32; 1080], block_start_index: usize, frame: &[f32])
-    requires { ⌜ «block_start_index» + length (now frame) ≤ 1080 ⌝ }
+pub(crate) fn store(ring: &mut [f32], block_start_index: usize, frame: &[f32])
+    requires { ⌜ «block_start_index» + length (now frame) ≤ length (now ring) ⌝ }
     ensures { λ _. ⌜ now (ring .exit) ≡ stored (now (ring .entry)) «block_start_index» (now (frame .entry)) ⌝ }
 {
     put(ring, block_start_index, frame);

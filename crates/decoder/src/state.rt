@@ -23,6 +23,19 @@ pub struct Decoder {
     pub settled: bool,
 }
 
+// All of a state but its two rings, for callers that keep the rings in place.
+pub struct Registers {
+    pub rate: u32,
+    pub duration: u32,
+    pub ltpf_active_prev: bool,
+    pub block_start_index: usize,
+    pub c_num: [f32; 11],
+    pub c_den: [f32; 13],
+    pub lag: Lag,
+    pub run: u32,
+    pub settled: bool,
+}
+
 pub struct Started {
     pub answer: Answer,
     pub decoder: Decoder,

@@ -9,7 +9,7 @@ use Rattle.decoder.proofs.fitness.fit_config.Statement.{statement}
 use Rattle.decoder.proofs.fitness.fit_config.Tie as tie
 
 found : (c : tie.After-known-told) →
-    configOf (c .before .before .before .before .args .decoder .rate) (c .before .before .before .before .args .decoder .duration)
+    configOf (c .before .before .before .before .args .registers .rate) (c .before .before .before .before .args .registers .duration)
     ≡ Config (c .before .config2 .given .0 .0)
 found c = sym (c .before .before .before .config .ensures) ∙ c .before .config2 .given .1
 
@@ -27,7 +27,7 @@ returns c = rw (← c .before .before .config .ensures, c .enum-told .given .1)
 
 block-fits-requires : tie.Need-block-fits-requires
 block-fits-requires c κs =
-    let d = c .before .before .before .before .before .before .args .decoder in
+    let d = c .before .before .before .before .before .before .args .registers in
     sized _ (known (d .rate) (d .duration) _ (found (c .before .before))) .frame-some
 
 returns-2 : tie.Need-returns-2

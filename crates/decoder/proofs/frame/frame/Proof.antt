@@ -1,222 +1,33 @@
--- `frame` makes the checks in the definition's order; the rest is `accept`'s.
-use mathlib.Core.Path.{_≡_, sym, _∙_, ap}
-use native.Mathlib.Omega.{arith}
-use borrow.Author.Tests.{le-leb, lt-leb, eq-eqb, ne-eqb}
-use Rattle.rates.specs.declared.config.Configured.the-variants.{Config}
-use Rattle.decoder.specs.State.{fitConfig}
-use Rattle.decoder.specs.Frame.{framed, done}
-use Rattle.decoder.proofs.Sizes.{known, sized}
-use Rattle.decoder.proofs.Fit.{fit-known}
-use Rattle.decoder.proofs.Checks.{checked}
-use Rattle.decoder.proofs.Tested.{failed, passed}
+-- `frame` takes the state apart for `frame_in_place`, and puts it together again.
+use mathlib.Core.Path.{_≡_}
+use Rattle.decoder.proofs.Checks.{put-back-together}
 use borrow.Author.Needs.{needs}
 use Rattle.decoder.proofs.frame.frame.Statement.{statement}
 use Rattle.decoder.proofs.frame.frame.Tie as tie
 
--- the configuration that was found
-found : (c : tie.After-known-told) →
-    fitConfig (c .before .before .before .before .before .before .before .args .decoder) ≡ Config (c .before .config .given .0 .0)
-found c = sym (c .before .before .before .fit-config .ensures) ∙ c .before .config .given .1
+registers-of-requires : tie.Need-registers-of-requires
+registers-of-requires c κs = search needs
 
-fit-config-requires : tie.Need-fit-config-requires
-fit-config-requires c κs = search needs
+frame-in-place-requires : tie.Need-frame-in-place-requires
+frame-in-place-requires c κs = search needs
 
-enum-known-config : tie.Need-enum-known-config
-enum-known-config c = search needs
-
-enum-known-answer : tie.Need-enum-known-answer
-enum-known-answer c = search needs
-
-framed-as-requires : tie.Need-framed-as-requires
-framed-as-requires c κs = search needs
-
-returns : tie.Need-returns
-unfolding framed
-returns c = rw (c .framed-as .ensures, ← c .before .before .before .before .fit-config .ensures, c .before .before .answer .given .1)
-
-set-counts-requires : tie.Need-set-counts-requires
-set-counts-requires c κs =
-    let d = c .before .before .before .before .before .before .before .args .decoder in
-    let s = sized _ (known (d .rate) (d .duration) _ (fit-known d _ (found c) .0)) in
-    omega arith
-
-framed-as-requires-2 : tie.Need-framed-as-requires-2
-framed-as-requires-2 c κs = search needs
-
-returns-2 : tie.Need-returns-2
-unfolding framed
-returns-2 c =
-    rw (c .framed-as2 .ensures, found (c .before .before .before), failed (c .before .before .set-counts .ensures) (c .before .if1 .taken))
-
-set-finite-requires : tie.Need-set-finite-requires
-set-finite-requires c κs = search needs
-
-framed-as-requires-3 : tie.Need-framed-as-requires-3
-framed-as-requires-3 c κs = search needs
-
-returns-3 : tie.Need-returns-3
-unfolding framed
-returns-3 c =
-    rw (
-      c .framed-as3 .ensures,
-      found (c .before .before .before .before .before),
-      passed (c .before .before .before .before .set-counts .ensures) (c .before .before .before .if1 .left),
-      failed (c .before .before .set-finite .ensures) (c .before .if2 .taken),
-    )
-
-framed-as-requires-4 : tie.Need-framed-as-requires-4
-framed-as-requires-4 c κs = search needs
-
-returns-4 : tie.Need-returns-4
-unfolding framed
-returns-4 c =
-    rw (
-      c .framed-as4 .ensures,
-      found (c .before .before .before .before .before .before .before),
-      passed (c .before .before .before .before .before .before .set-counts .ensures) (c .before .before .before .before .before .if1 .left),
-      passed (c .before .before .before .before .set-finite .ensures) (c .before .before .before .if2 .left),
-      ne-eqb _ _ (c .before .if3 .taken),
-    )
-
-framed-as-requires-5 : tie.Need-framed-as-requires-5
-framed-as-requires-5 c κs = search needs
-
-returns-5 : tie.Need-returns-5
-unfolding framed
-returns-5 c =
-    rw (
-      c .framed-as5 .ensures,
-      found (c .before .before .before .before .before .before .before .before),
-      passed (c .before .before .before .before .before .before .before .set-counts .ensures) (c .before .before .before .before .before .before .if1 .left),
-      passed (c .before .before .before .before .before .set-finite .ensures) (c .before .before .before .before .if2 .left),
-      eq-eqb _ _ (c .before .before .if3 .left),
-      lt-leb _ _ (c .before .if4 .taken),
-    )
-
-lag-for-requires : tie.Need-lag-for-requires
-lag-for-requires c κs = search needs
-
-enum-known-lag : tie.Need-enum-known-lag
-enum-known-lag c = search needs
-
-enum-told : tie.Need-enum-told
-enum-told c = search needs
-
-framed-as-requires-6 : tie.Need-framed-as-requires-6
-framed-as-requires-6 c κs = search needs
-
-returns-6 : tie.Need-returns-6
-unfolding framed
-returns-6 c =
-    rw (
-      c .framed-as6 .ensures,
-      found (c .before .before .before .before .before .before .before .before .before .before .before .before),
-      passed (c .before .before .before .before .before .before .before .before .before .before .before .set-counts .ensures)
-          (c .before .before .before .before .before .before .before .before .before .before .if1 .left),
-      passed (c .before .before .before .before .before .before .before .before .before .set-finite .ensures)
-          (c .before .before .before .before .before .before .before .before .if2 .left),
-      eq-eqb _ _ (c .before .before .before .before .before .before .if3 .left),
-      le-leb _ _ (c .before .before .before .before .before .if4 .left),
-      ← c .before .before .before .lag-for .ensures,
-      c .before .enum-told .given .1,
-    )
-
-all-in-range-requires : tie.Need-all-in-range-requires
-all-in-range-requires c κs = search needs
-
-framed-as-requires-7 : tie.Need-framed-as-requires-7
-framed-as-requires-7 c κs = search needs
+join-requires : tie.Need-join-requires
+join-requires c κs = search needs
 
 same-length : tie.Need-same-length
 same-length c = search needs
 
-returns-7 : tie.Need-returns-7
-unfolding framed
-returns-7 c =
-    rw (
-      c .framed-as7 .ensures,
-      found (c .before .before .before .before .before .before .before .before .before .before .before .before .before .before .before .before),
-      passed (c .before .before .before .before .before .before .before .before .before .before .before .before .before .before .before .set-counts .ensures)
-          (c .before .before .before .before .before .before .before .before .before .before .before .before .before .before .if1 .left),
-      passed (c .before .before .before .before .before .before .before .before .before .before .before .before .before .set-finite .ensures)
-          (c .before .before .before .before .before .before .before .before .before .before .before .before .if2 .left),
-      eq-eqb _ _ (c .before .before .before .before .before .before .before .before .before .before .if3 .left),
-      le-leb _ _ (c .before .before .before .before .before .before .before .before .before .if4 .left),
-      ← c .before .before .before .before .before .before .before .lag-for .ensures,
-      c .before .before .before .before .before .lag .given .1,
-      failed (c .before .before .all-in-range .ensures) (c .before .if5 .taken),
-    )
-
-is-active-requires : tie.Need-is-active-requires
-is-active-requires c κs = search needs
-
-accept-requires : tie.Need-accept-requires
-accept-requires c κs =
-    let a = c .before .before .before .before .before .before .before .before .before .before .before .before .before .before .before .before .before .before .before .before .before .before .before .before .args in
-    rw (c .before .is-active .ensures)
-    (checked (a .decoder) _ (a .pitch) (c .before .before .before .before .before .before .lag .given .0 .0) (a .numerators .now) (a .denominators .now)
-    (a .samples .now)
-    (found (c .before .before .before .before .before .before .before .before .before .before .before .before .before .before .before .before .before))
-    (sym (c .before .before .before .before .before .before .before .before .lag-for .ensures)
-    ∙ c .before .before .before .before .before .before .lag .given .1)
-    (passed (c .before .before .before .before .before .before .before .before .before .before .before .before .before .before .before .before .set-counts .ensures) (c .before .before .before .before .before .before .before .before .before .before .before .before .before .before .before .if1 .left))
-    (c .before .before .before .before .before .before .before .before .before .before .before .if3 .left))
-
-framed-as-requires-8 : tie.Need-framed-as-requires-8
-framed-as-requires-8 c κs = search needs
-
-same-length-2 : tie.Need-same-length-2
-same-length-2 c = search needs
-
-returns-8 : tie.Need-returns-8
-unfolding framed
-returns-8 c =
-    rw (
-      c .framed-as8 .ensures,
-      found (c .before .before .before .before .before .before .before .before .before .before .before .before .before .before .before .before .before .before .before .before .before),
-      passed (c .before .before .before .before .before .before .before .before .before .before .before .before .before .before .before .before .before .before .before .before .set-counts .ensures)
-          (c .before .before .before .before .before .before .before .before .before .before .before .before .before .before .before .before .before .before .before .if1 .left),
-      passed (c .before .before .before .before .before .before .before .before .before .before .before .before .before .before .before .before .before .before .set-finite .ensures)
-          (c .before .before .before .before .before .before .before .before .before .before .before .before .before .before .before .before .before .if2 .left),
-      eq-eqb _ _ (c .before .before .before .before .before .before .before .before .before .before .before .before .before .before .before .if3 .left),
-      le-leb _ _ (c .before .before .before .before .before .before .before .before .before .before .before .before .before .before .if4 .left),
-      ← c .before .before .before .before .before .before .before .before .before .before .before .before .lag-for .ensures,
-      c .before .before .before .before .before .before .before .before .before .before .lag .given .1,
-      passed (c .before .before .before .before .before .before .before .all-in-range .ensures) (c .before .before .before .before .before .before .if5 .left),
-      ← c .before .before .before .before .before .is-active .ensures,
-    )
-    (ap done (c .before .before .before .accept .ensures))
+returns : tie.Need-returns
+returns c =
+    rw (c .join .ensures)
+    (put-back-together _ _ _ _ _ (rw (c .before .before .before .before .before .before .before .before .registers-of .ensures) at (c .before .before .before .before .frame-in-place .ensures)))
 
 pub frame-spec : {M : Type 1} → statement M
 frame-spec =
     tie.close
     (tie.spec
-    fit-config-requires
-    enum-known-config
-    enum-known-answer
-    framed-as-requires
-    returns
-    set-counts-requires
-    framed-as-requires-2
-    returns-2
-    set-finite-requires
-    framed-as-requires-3
-    returns-3
-    framed-as-requires-4
-    returns-4
-    framed-as-requires-5
-    returns-5
-    lag-for-requires
-    enum-known-lag
-    enum-told
-    framed-as-requires-6
-    returns-6
-    all-in-range-requires
-    framed-as-requires-7
+    registers-of-requires
+    frame-in-place-requires
+    join-requires
     same-length
-    returns-7
-    is-active-requires
-    accept-requires
-    framed-as-requires-8
-    same-length-2
-    returns-8)
+    returns)

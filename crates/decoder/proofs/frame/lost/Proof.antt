@@ -1,40 +1,25 @@
--- `lost` changes the run and the settled mark of a fit state.
-use Rattle.decoder.specs.Frame.{lostFrom}
+-- `lost` takes the state apart for `lost_in_place`, and puts it together again.
+use mathlib.Core.Path.{_≡_}
+use Rattle.decoder.proofs.Checks.{lost-without-rings}
 use borrow.Author.Needs.{needs}
+use Rattle.decoder.specs.InPlace.{registersOf}
 use Rattle.decoder.proofs.frame.lost.Statement.{statement}
 use Rattle.decoder.proofs.frame.lost.Tie as tie
 
-fit-config-requires : tie.Need-fit-config-requires
-fit-config-requires c κs = search needs
+registers-of-requires : tie.Need-registers-of-requires
+registers-of-requires c κs = search needs
 
-enum-known-fitted : tie.Need-enum-known-fitted
-enum-known-fitted c = search needs
+lost-in-place-requires : tie.Need-lost-in-place-requires
+lost-in-place-requires c κs = search needs
 
-framed-as-requires : tie.Need-framed-as-requires
-framed-as-requires c κs = search needs
+join-requires : tie.Need-join-requires
+join-requires c κs = search needs
 
 returns : tie.Need-returns
-unfolding lostFrom
-returns c = rw (c .framed-as .ensures, ← c .before .before .before .before .fit-config .ensures, c .before .before .fitted .given .1)
-
-enum-told : tie.Need-enum-told
-enum-told c = search needs
-
-framed-as-requires-2 : tie.Need-framed-as-requires-2
-framed-as-requires-2 c κs = search needs
-
-returns-2 : tie.Need-returns-2
-unfolding lostFrom
-returns-2 c = rw (c .framed-as2 .ensures, ← c .before .before .before .fit-config .ensures, c .before .enum-told .given .1)
+returns c =
+    let d = c .before .before .before .before .before .before .args .decoder in
+    rw (c .join .ensures, c .before .before .lost-in-place .ensures, c .before .before .before .registers-of .ensures)
+    (lost-without-rings (registersOf d) (d .«x_hat_mem») (d .«x_hat_ltpf_mem»))
 
 pub lost-spec : {M : Type 1} → statement M
-lost-spec =
-    tie.close
-    (tie.spec
-    fit-config-requires
-    enum-known-fitted
-    framed-as-requires
-    returns
-    enum-told
-    framed-as-requires-2
-    returns-2)
+lost-spec = tie.close (tie.spec registers-of-requires lost-in-place-requires join-requires returns)
