@@ -1,5 +1,7 @@
 -- What follows from the encoder's definitions, and what its proofs share.
 pub mod Written
+pub mod Blocks
+pub mod Rows
 pub mod Steps
 pub mod Listed
 pub mod Signs

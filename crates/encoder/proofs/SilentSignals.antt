@@ -17,10 +17,9 @@ use Rattle.encoder.specs.Straight.{sampled}
 use Rattle.encoder.specs.Resample.{used, sample, entry, taps, scale, resampled}
 use Rattle.encoder.specs.HighPass.{memories, passed, highPassed}
 use Rattle.encoder.specs.Halving.{fiveTaps, halved}
-use Rattle.encoder.specs.Signals.{atRate, at12p8, at6p4, signalsOf}
+use Rattle.encoder.specs.Signals.{Signals, atRate, at12p8, at6p4, signalsOf}
 use Rattle.encoder.specs.declared.highpass.HighPass.{HighPass}
 use Rattle.encoder.specs.declared.signals.Lengths.{Lengths}
-use Rattle.encoder.specs.declared.signals.Signals.{Signals}
 use Rattle.encoder.specs.declared.state.Encoder.{Encoder}
 use Rattle.encoder.proofs.Accepted.{Sized, both}
 use Rattle.encoder.proofs.Silence.{round-zero}

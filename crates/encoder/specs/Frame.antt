@@ -11,7 +11,7 @@ use Rattle.rates.specs.declared.config.Configured.{Configured}
 use Rattle.rates.specs.declared.config.Configured.the-variants.{Config, Refused}
 use Rattle.lag.specs.declared.pitch.PitchRecord.the-variants.{Absent}
 use Rattle.encoder.specs.Straight.{laid}
-use Rattle.encoder.specs.Signals.{lengthsOf, signalsOf}
+use Rattle.encoder.specs.Signals.{Signals, lengthsOf, signalsOf}
 use Rattle.encoder.specs.Pitch.{detected}
 use Rattle.encoder.specs.Accept.{accepted}
 use Rattle.encoder.specs.Found.{foundIn}
@@ -19,7 +19,6 @@ use Rattle.encoder.specs.declared.activation.Memory.{Memory}
 use Rattle.encoder.specs.declared.found.Found.{Found}
 use Rattle.encoder.specs.declared.frame.Frame.{Frame}
 use Rattle.encoder.specs.declared.signals.Lengths.{Lengths}
-use Rattle.encoder.specs.declared.signals.Signals.{Signals}
 use Rattle.encoder.specs.declared.state.Encoder.{Encoder}
 
 -- a refused frame hands back the same state, absent with 0 bits

@@ -1,7 +1,9 @@
 -- The encoder, in document 01's order.
 pub mod Sums
 pub mod Straight
+pub mod Blocks
 pub mod Resample
+pub mod Rows
 pub mod HighPass
 pub mod Halving
 pub mod Signals

@@ -12,7 +12,7 @@ use Rattle.encoder.specs.Resample.{resampled}
 use Rattle.encoder.specs.HighPass.{memories, highPassed}
 use Rattle.encoder.specs.Halving.{halved}
 use Rattle.encoder.specs.declared.signals.Lengths.{Lengths}
-use Rattle.encoder.specs.declared.signals.Signals.{Signals}
+use Rattle.encoder.specs.declared.highpass.HighPass.{HighPass}
 use Rattle.encoder.specs.declared.state.Encoder.{Encoder}
 
 -- the frame's samples at 12.8 and at 6.4 kHz, and where the delayed frame starts: 24 or 44 samples before the new ones
@@ -33,6 +33,12 @@ unfoldable pub at6p4 : List Float → List Float → ℕ → ℕ → List Float
 at6p4 past x start len = written (laid 178 past 0 114) 114 (halved x start) len
 
 -- the three signals of a frame, and the high-pass's memories after it
+pub record Signals : Type 0 where
+  pub «x_s» : List Float
+  pub «x_12p8» : List Float
+  pub «x_6p4» : List Float
+  pub h50 : HighPass
+
 abbrev pub signalsOf : Encoder → ℕ → Lengths → List Float → List ℤ → Signals
 signalsOf e p l filter frame =
     let x = atRate (e .«x_s») frame in

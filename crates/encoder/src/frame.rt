@@ -3,11 +3,14 @@ use crate::accept::accept;
 use crate::activation::Memory;
 use crate::found::Found;
 use crate::found::found_in;
+use crate::highpass::HighPass;
+use crate::highpass::high_pass;
 use crate::pitch::pitch_detection;
 use crate::signals::Lengths;
-use crate::signals::Signals;
+use crate::signals::at_6p4;
+use crate::signals::at_12p8;
+use crate::signals::at_rate;
 use crate::signals::lengths_of;
-use crate::signals::signals_of;
 use crate::state::Encoder;
 use crate::straight::last_60;
 use crate::straight::last_114;
@@ -55,17 +58,23 @@ fn done(found: Found, encoder: Encoder) -> Frame
 }
 
 // The state after a frame: each history holds the last entries of its signal.
-fn next(e: Encoder, s: Signals, nf: usize, l: Lengths, t_curr: usize, memory: Memory) -> Encoder
+fn next(
+    e: Encoder,
+    h50: HighPass,
+    at_rate: &[f32; 540],
+    at_12p8: &[f32; 404],
+    at_6p4: &[f32; 178],
+    nf: usize,
+    l: Lengths,
+    t_curr: usize,
+    memory: Memory,
+) -> Encoder
     requires { ⌜ (nf ≤ 480) × (l .«len12p8» ≤ 128) × (l .«len6p4» ≤ 64) ⌝ }
-    ensures { λ r. ⌜ r ≡ nextState e s nf l «t_curr» memory ⌝ }
+    ensures { λ r. ⌜ r ≡ nextState e (record { «x_s» = now («at_rate» .entry); «x_12p8» = now («at_12p8» .entry); «x_6p4» = now («at_6p4» .entry); h50 = h50 }) nf l «t_curr» memory ⌝ }
 {
-    let at_rate = s.x_s;
-    let at_12p8 = s.x_12p8;
-    let at_6p4 = s.x_6p4;
-    let h50 = s.h50;
-    let x_s = last_60(&at_rate, nf);
-    let x_12p8 = last_276(&at_12p8, l.len12p8);
-    let x_6p4 = last_114(&at_6p4, l.len6p4);
+    let x_s = last_60(at_rate, nf);
+    let x_12p8 = last_276(at_12p8, l.len12p8);
+    let x_6p4 = last_114(at_6p4, l.len6p4);
     Encoder {
         rate: e.rate,
         duration: e.duration,
@@ -85,19 +94,23 @@ fn encode(
     resampling: &[f32],
     correlation: &[f32],
     signal: &[f32],
-    x_s: &[i16],
+    frame: &[i16],
     nbits: u32,
     near_nyquist: bool,
 ) -> Frame
-    requires { ⌜ accepted e (now resampling) (now correlation) (now signal) (now «x_s») nbits ≡ Config c ⌝ }
-    ensures { λ r. ⌜ r ≡ encoded e c (now (resampling .entry)) (now (correlation .entry)) (now (signal .entry)) (now («x_s» .entry)) nbits «near_nyquist» ⌝ }
+    requires { ⌜ accepted e (now resampling) (now correlation) (now signal) (now frame) nbits ≡ Config c ⌝ }
+    ensures { λ r. ⌜ r ≡ encoded e c (now (resampling .entry)) (now (correlation .entry)) (now (signal .entry)) (now (frame .entry)) nbits «near_nyquist» ⌝ }
 {
     let fs = c.fs;
     let n_ms = c.n_ms;
     let l = lengths_of(n_ms);
-    let signals = signals_of(e, fs.p, l, resampling, x_s);
-    let x_12p8 = signals.x_12p8;
-    let x_6p4 = signals.x_6p4;
+    let mut x_s = [0.0; 540];
+    let mut x_12p8 = [0.0; 404];
+    let mut x_6p4 = [0.0; 178];
+    at_rate(&e.x_s, frame, &mut x_s);
+    at_12p8(&e.x_12p8, &x_s, resampling, fs.p, l.len12p8, &mut x_12p8);
+    let h50 = high_pass(e.h50, &mut x_12p8, l.len12p8);
+    at_6p4(&e.x_6p4, &x_12p8, l.start, l.len6p4, &mut x_6p4);
     let detected = pitch_detection(&x_6p4, l.len6p4, e.t_prev);
     let memory = e.memory;
     let found = found_in(
@@ -112,7 +125,8 @@ fn encode(
         near_nyquist,
     );
     let next_memory = found.memory;
-    let encoder = next(e, signals, c.nf, l, detected.t_curr, next_memory);
+    let t_curr = detected.t_curr;
+    let encoder = next(e, h50, &x_s, &x_12p8, &x_6p4, c.nf, l, t_curr, next_memory);
     done(found, encoder)
 }
 

@@ -1,5 +1,6 @@
 // The lag parameter: the lag at 12.8 kHz to a quarter of a sample, and its index.
-use crate::sums::sum_of_products;
+use crate::sums::put_sums;
+use crate::sums::turn_round;
 use crate::taps::moved;
 use crate::taps::table_offset;
 use crate::taps::with_tap;
@@ -38,12 +39,25 @@ fn k_max(t_curr: usize) -> usize
 // The correlations of the delayed frame with what lies `from` samples before it, and more by one
 // at each entry.
 fn correlate(x: &[f32; 404], start: usize, len12p8: usize, from: usize, r_12p8: &mut [f32])
-    requires { ⌜ (start + «len12p8» ≤ 404) × (from + length (now «r_12p8») ≤ start + 1) ⌝ }
+    requires { ⌜ (start + «len12p8» ≤ 404) × (1 ≤ from) × (from + length (now «r_12p8») ≤ start + 1) ⌝ }
+    requires { ⌜ (8 ≤ length (now «r_12p8»)) × (length (now «r_12p8») ≤ 17) ⌝ }
     ensures { λ _. ⌜ now («r_12p8» .exit) ≡ correlated (now (x .entry)) start «len12p8» from (length (now («r_12p8» .entry))) ⌝ }
 {
-    for j in 0..r_12p8.len() {
-        r_12p8[j] = sum_of_products(&x[..], start, start - (from + j), len12p8);
-    }
+    let count = r_12p8.len();
+    let last = count - 8;
+    let first = start + 1 - (from + count);
+    let mut sums = [0.0f32; 17];
+    put_sums(
+        &x[..],
+        start,
+        first,
+        len12p8,
+        &mut sums[..count],
+        0,
+        last / 2,
+        last,
+    );
+    turn_round(&sums[..count], r_12p8);
 }
 
 // The entry of the largest correlation above 0.0 among all but the first and the last four.

@@ -1,12 +1,15 @@
 // The pitch search: the lag at 6.4 kHz, and whether there is a pitch at all.
+use crate::sums::put_sums;
 use crate::sums::sum_of_products;
+use crate::sums::turn_round;
 use root::Root;
 ghost use mathlib.Core.Path.{_≡_};
-ghost use Prim.Native.Nat.{_≤_};
+ghost use Prim.Native.Nat.{_+_, _≤_};
 ghost use lib.ListN.{length};
 ghost use Rattle.floats.specs.Single.{_⊗_};
 ghost use Rattle.root.specs.SquareRoot.{rootOf};
-ghost use Rattle.encoder.specs.Pitch.{correlations, weighted, indexOfMax, energy, overRoot, lag1, nearFrom, nearTo, lag2, detected};
+ghost use Rattle.encoder.specs.Sums.{productSum, window, listed};
+ghost use Rattle.encoder.specs.Pitch.{correlations, weighted, indexOfMax, energy, overRoot, lag1, nearFrom, nearTo, lag2, judged, detected};
 
 // The smallest lag at 6.4 kHz.
 const K_MIN: usize = 17;
@@ -19,15 +22,38 @@ pub struct Detected {
     pub present: bool,
 }
 
+// The sums over the frame's products with each window of its length that starts at entries 0 to 97.
+fn window_sums(x_6p4: &[f32; 178], len6p4: usize) -> [f32; 98]
+    requires { ⌜ «len6p4» ≤ 64 ⌝ }
+    ensures { λ r. ⌜ r ≡ listed (λ i. productSum (window (now («x_6p4» .entry)) 114) (window (now («x_6p4» .entry)) (0 + i)) «len6p4») 98 ⌝ }
+{
+    let mut sums = [0.0f32; 98];
+    for b in 0..4usize {
+        let at = 24 * b;
+        put_sums(
+            &x_6p4[..],
+            K_MAX,
+            0,
+            len6p4,
+            &mut sums[..],
+            at,
+            at + 8,
+            at + 16,
+        );
+    }
+    sums[96] = sum_of_products(&x_6p4[..], K_MAX, 96, len6p4);
+    sums[97] = sum_of_products(&x_6p4[..], K_MAX, 97, len6p4);
+    sums
+}
+
 // The correlations of the frame with what lies 17 to 114 samples before it.
 fn correlations(x_6p4: &[f32; 178], len6p4: usize) -> [f32; 98]
     requires { ⌜ «len6p4» ≤ 64 ⌝ }
     ensures { λ r. ⌜ r ≡ correlations (now («x_6p4» .entry)) «len6p4» ⌝ }
 {
+    let sums = window_sums(x_6p4, len6p4);
     let mut r_6p4 = [0.0f32; 98];
-    for k in 0..98usize {
-        r_6p4[k] = sum_of_products(&x_6p4[..], K_MAX, K_MAX - K_MIN - k, len6p4);
-    }
+    turn_round(&sums[..], &mut r_6p4[..]);
     r_6p4
 }
 
@@ -129,8 +155,18 @@ fn lag_t2(r_6p4: &[f32], t_prev: usize) -> usize
     index_of_max_value(&r_6p4[from..to]) + from + K_MIN
 }
 
+// A lag with its normalised correlation: a pitch is present only above 0.6.
+fn judged(t_curr: usize, normcorr: f32) -> Detected
+    ensures { λ r. ⌜ r ≡ judged «t_curr» normcorr ⌝ }
+{
+    Detected {
+        t_curr,
+        present: normcorr > 0.6,
+    }
+}
+
 // The lag of a frame, and whether it has a pitch. The second lag wins only above 0.85 times the
-// first; a pitch is present only above 0.6.
+// first.
 pub(crate) fn pitch_detection(x_6p4: &[f32; 178], len6p4: usize, t_prev: usize) -> Detected
     requires { ⌜ («len6p4» ≤ 64) × (17 ≤ «t_prev») × («t_prev» ≤ 114) ⌝ }
     ensures { λ r. ⌜ r ≡ detected (now («x_6p4» .entry)) «len6p4» «t_prev» ⌝ }
@@ -139,15 +175,12 @@ pub(crate) fn pitch_detection(x_6p4: &[f32; 178], len6p4: usize, t_prev: usize) 
     let t1 = lag_t1(&r_6p4);
     let t2 = lag_t2(&r_6p4[..], t_prev);
     let normcorr1 = normalised_correlation(x_6p4, len6p4, t1, r_6p4[t1 - K_MIN]);
+    if t1 == t2 {
+        return judged(t1, normcorr1);
+    }
     let normcorr2 = normalised_correlation(x_6p4, len6p4, t2, r_6p4[t2 - K_MIN]);
     if normcorr2 > 0.85 * normcorr1 {
-        return Detected {
-            t_curr: t2,
-            present: normcorr2 > 0.6,
-        };
+        return judged(t2, normcorr2);
     }
-    Detected {
-        t_curr: t1,
-        present: normcorr1 > 0.6,
-    }
+    judged(t1, normcorr1)
 }

@@ -7,8 +7,8 @@ use native.Mathlib.Omega.{arith}
 use borrow.Author.Tests.{le-leb}
 use lib.Ieee.{Float}
 use lib.ListN.{length}
-use Rattle.floats.specs.Single.{_⊕_, _⊖_, _⊗_, at}
-use Rattle.lanes.specs.Lanes.{all, plus, minus, steps, firAdded, firTaken, correlated, Lane, l0, l1, l2, l3, l4, l5, l6, l7, place, lane, added, taken}
+use Rattle.floats.specs.Single.{_⊕_, _⊖_, _⊗_, 0·0, at}
+use Rattle.lanes.specs.Lanes.{all, plus, minus, steps, firAdded, firTaken, fromZero, Lane, l0, l1, l2, l3, l4, l5, l6, l7, place, lane, added, taken}
 use Rattle.lanes.specs.declared.Lanes.{Lanes}
 
 pub lane-all : (j : Lane) (v : Float) → lane j (all v) ≡ v
@@ -76,7 +76,6 @@ module _ (j : Lane) (s : Lanes) (c x : List Float) (i : ℕ) where
   unfolding firTaken
   fir-taken p q = rw (le-leb (i + 8) (length x) p, le-leb (length c) (i + 1) q) (falling-taken (length c) q)
 
-  pub correlation-added : i + 8 ≤ length x → i + length c + 7 ≤ length x →
-      lane j (correlated s c x i) ≡ added (λ m. at c m ⊗ at x (i + m + place j)) (lane j s) (length c)
-  unfolding correlated
-  correlation-added p q = rw (le-leb (i + 8) (length x) p, le-leb (i + length c + 7) (length x) q) (rising-added (length c))
+-- a sum from 0.0
+pub from-zero-added : (j : Lane) (a x : List Float) (i n : ℕ) → lane j (fromZero a x i n) ≡ added (λ m. at a m ⊗ at x (i + m + place j)) 0·0 n
+from-zero-added j a x i n = rw (lane-all j 0·0) at (rising-added j (all 0·0) a x i n)

@@ -2,11 +2,13 @@
 use Prim.Native.Nat.{ℕ, zero, suc, _+_, _-_}
 use mathlib.Core.Bool.{Bool, cond, _&&_}
 use mathlib.Core.List.{List}
+use mathlib.Core.Path.{_≡_}
 use lib.Dec.{leb}
 use lib.Ieee.{Float}
 use lib.ListN.{length}
-use Rattle.floats.specs.Single.{_⊕_, _⊖_, _⊗_, at}
+use Rattle.floats.specs.Single.{_⊕_, _⊖_, _⊗_, 0·0, at}
 use Rattle.lanes.specs.declared.Lanes.{Lanes}
+use Rattle.lanes.specs.declared.Three.{Three}
 
 abbrev pub all : Float → Lanes
 all v = record { s0 = v; s1 = v; s2 = v; s3 = v; s4 = v; s5 = v; s6 = v; s7 = v }
@@ -54,10 +56,26 @@ unfoldable pub firTaken : Lanes → List Float → List Float → ℕ → Lanes
 unfolding steps
 firTaken s c x i = cond (firInside c x i) (steps (λ t k. minus t (at c k) x (i - k)) s (length c)) s
 
-unfoldable pub correlated : Lanes → List Float → List Float → ℕ → Lanes
+-- x holds all samples that eight sums of the length of a read from i on
+abbrev pub holds : List Float → List Float → ℕ → Bool
+holds a x i = leb (i + 8) (length x) && leb (i + length a + 7) (length x)
+
+-- the first n terms of eight sums from 0.0
+abbrev pub fromZero : List Float → List Float → ℕ → ℕ → Lanes
+fromZero a x i n = steps (λ t m. plus t (at a m) x (i + m)) (all 0·0) n
+
+-- at three places
+pub record Summed (a x : List Float) (i j k n : ℕ) (r : Three) : Type 0 where
+  pub first : r .first ≡ fromZero a x i n
+  pub second : r .second ≡ fromZero a x j n
+  pub third : r .third ≡ fromZero a x k n
+
+unfoldable pub threeCorrelated : List Float → List Float → ℕ → ℕ → ℕ → Three
 unfolding steps
-correlated s a x i =
-    cond (leb (i + 8) (length x) && leb (i + length a + 7) (length x)) (steps (λ t n. plus t (at a n) x (i + n)) s (length a)) s
+threeCorrelated a x i j k =
+    cond (holds a x i && (holds a x j && holds a x k))
+    (record { first = fromZero a x i (length a); second = fromZero a x j (length a); third = fromZero a x k (length a) })
+    (record { first = all 0·0; second = all 0·0; third = all 0·0 })
 
 -- one of the eight, its place, and its sum
 pub data Lane : Type 0 where

@@ -3,7 +3,7 @@
 ghost use mathlib.Core.Path.{_≡_};
 ghost use Prim.Native.Nat.{_+_, _≤_};
 ghost use lib.ListN.{length};
-ghost use Rattle.lanes.specs.Lanes.{all, plus, minus, firAdded, firTaken, correlated};
+ghost use Rattle.lanes.specs.Lanes.{all, plus, minus, firAdded, firTaken, holds, Summed, threeCorrelated};
 
 pub struct Lanes {
     pub s0: f32,
@@ -107,23 +107,90 @@ pub fn sub_fir(start: Lanes, c: &[f32], x: &[f32], i: usize) -> Lanes
     s
 }
 
-// Adds a[n]·x[i + n] for rising n, and so for the seven samples behind i. Where x does not hold all
-// of them, the sums are left as they are.
-pub fn correlate(start: Lanes, a: &[f32], x: &[f32], i: usize) -> Lanes
-    ensures { λ r. ⌜ r ≡ correlated start (now (a .entry)) (now (x .entry)) i ⌝ }
+// Three times eight sums.
+pub struct Three {
+    pub first: Lanes,
+    pub second: Lanes,
+    pub third: Lanes,
+}
+
+// Whether x holds all samples that eight sums of a's length read from i on.
+fn holds(a: &[f32], x: &[f32], i: usize) -> bool
+    ensures { λ r. ⌜ r ≡ holds (now (a .entry)) (now (x .entry)) i ⌝ }
 {
     if x.len() < 8 {
-        return start;
+        return false;
     }
     if i > x.len() - 8 {
-        return start;
+        return false;
     }
     if a.len() > x.len() - 7 - i {
-        return start;
+        return false;
     }
-    let mut s = start;
-    for n in 0..a.len() {
-        s = add_scaled(s, a[n], x, i + n);
+    true
+}
+
+// Adds the products of a[n] to each of the three.
+fn step(s: Three, c: f32, x: &[f32], i: usize, j: usize, k: usize) -> Three
+    requires { ⌜ (i + 8 ≤ length (now x)) × (j + 8 ≤ length (now x)) × (k + 8 ≤ length (now x)) ⌝ }
+    ensures { λ r. ⌜ r ≡ record { first = plus (s .first) c (now (x .entry)) i; second = plus (s .second) c (now (x .entry)) j; third = plus (s .third) c (now (x .entry)) k } ⌝ }
+{
+    let first = add_scaled(s.first, c, x, i);
+    let second = add_scaled(s.second, c, x, j);
+    let third = add_scaled(s.third, c, x, k);
+    Three {
+        first,
+        second,
+        third,
+    }
+}
+
+// The sums from 0.0 where x holds all samples. Two terms a turn: with one, the loop would become
+// slower code that adds up each sum in a row.
+fn three_sums(a: &[f32], x: &[f32], i: usize, j: usize, k: usize) -> Three
+    requires { ⌜ (i + 8 ≤ length (now x)) × (i + length (now a) + 7 ≤ length (now x)) ⌝ }
+    requires { ⌜ (j + 8 ≤ length (now x)) × (j + length (now a) + 7 ≤ length (now x)) ⌝ }
+    requires { ⌜ (k + 8 ≤ length (now x)) × (k + length (now a) + 7 ≤ length (now x)) ⌝ }
+    ensures { λ r. ⌜ Summed (now (a .entry)) (now (x .entry)) i j k (length (now (a .entry))) r ⌝ }
+{
+    let zero = starting_at(0.0);
+    let mut s = Three {
+        first: zero,
+        second: zero,
+        third: zero,
+    };
+    let pairs = a.len() / 2;
+    for m in 0..pairs {
+        let n = 2 * m;
+        let t = step(s, a[n], x, i + n, j + n, k + n);
+        s = step(t, a[n + 1], x, i + n + 1, j + n + 1, k + n + 1);
+    }
+    let n = 2 * pairs;
+    if n < a.len() {
+        return step(s, a[n], x, i + n, j + n, k + n);
     }
     s
+}
+
+// The sums of a[n]·x[i + n] for rising n from 0.0, and so for the seven samples behind i; and the
+// same at j and at k. Where x does not hold all samples, all sums are 0.0.
+pub fn correlate_three(a: &[f32], x: &[f32], i: usize, j: usize, k: usize) -> Three
+    ensures { λ r. ⌜ r ≡ threeCorrelated (now (a .entry)) (now (x .entry)) i j k ⌝ }
+{
+    let zero = starting_at(0.0);
+    let zeros = Three {
+        first: zero,
+        second: zero,
+        third: zero,
+    };
+    if !holds(a, x, i) {
+        return zeros;
+    }
+    if !holds(a, x, j) {
+        return zeros;
+    }
+    if !holds(a, x, k) {
+        return zeros;
+    }
+    three_sums(a, x, i, j, k)
 }

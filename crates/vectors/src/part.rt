@@ -15,7 +15,9 @@ pub fn first(floats: &[f32; 512], count: usize) -> &[f32]
 }
 
 // The same of a slice, to be changed.
-pub fn first_mut(floats: &mut [f32], count: usize) -> &mut [f32] {
+pub fn first_mut(floats: &mut [f32], count: usize) -> &mut [f32]
+    ensures { λ r. ⌜ now r ≡ take count (now (floats .entry)) ⌝ }
+{
     if count < floats.len() {
         &mut floats[..count]
     } else {

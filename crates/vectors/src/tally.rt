@@ -3,6 +3,9 @@
 use floats::bits::bits_of;
 use libc::STDERR_FILENO;
 use libc::STDOUT_FILENO;
+ghost use mathlib.Core.Path.{_≡_};
+ghost use lib.Ieee.{binary32, toBits};
+ghost use Rattle.vectors.specs.Tallies.{next, empty, startCounted, frameCounted, lossCounted, different, compared};
 
 // The kinds of records: the three calls, a set that is lent, and the end.
 pub const START: u8 = b'S';
@@ -30,7 +33,9 @@ pub struct Tally {
 }
 
 // One more, or the same where no number is larger.
-fn next(count: u64) -> u64 {
+fn next(count: u64) -> u64
+    ensures { λ r. ⌜ r ≡ next count ⌝ }
+{
     if count < u64::MAX { count + 1 } else { count }
 }
 
@@ -40,7 +45,9 @@ fn print_count(fd: i32, name: &[u8], count: u64) {
 }
 
 impl Tally {
-    pub fn new() -> Self {
+    pub fn new() -> Self
+        ensures { λ r. ⌜ r ≡ empty ⌝ }
+    {
         Tally {
             kind: START,
             calls: 0,
@@ -51,21 +58,27 @@ impl Tally {
         }
     }
 
-    pub fn start(mut self) -> Self {
+    pub fn start(mut self) -> Self
+        ensures { λ r. ⌜ r ≡ startCounted self ⌝ }
+    {
         self.kind = START;
         self.calls = next(self.calls);
         self.starts = next(self.starts);
         self
     }
 
-    pub fn frame(mut self) -> Self {
+    pub fn frame(mut self) -> Self
+        ensures { λ r. ⌜ r ≡ frameCounted self ⌝ }
+    {
         self.kind = FRAME;
         self.calls = next(self.calls);
         self.frames = next(self.frames);
         self
     }
 
-    pub fn loss(mut self) -> Self {
+    pub fn loss(mut self) -> Self
+        ensures { λ r. ⌜ r ≡ lossCounted self ⌝ }
+    {
         self.kind = LOSS;
         self.calls = next(self.calls);
         self.losses = next(self.losses);
@@ -82,46 +95,66 @@ impl Tally {
         }
     }
 
-    // Compares a number of the last call's answer, and prints it where it differs.
-    pub fn number(mut self, name: &[u8], expected: u64, got: u64) -> Self {
-        if expected == got {
-            return self;
-        }
-        if self.differences < PRINTED {
-            self.print_call(STDOUT_FILENO);
-            io::write_all(STDOUT_FILENO, b" ");
-            io::write_all(STDOUT_FILENO, name);
-            print_count(STDOUT_FILENO, b" expected ", expected);
-            print_count(STDOUT_FILENO, b" got ", got);
-            io::write_all(STDOUT_FILENO, b"\n");
-        }
+    // One more difference.
+    fn differs(mut self) -> Self
+        ensures { λ r. ⌜ r ≡ different self ⌝ }
+    {
         self.differences = next(self.differences);
         self
     }
 
+    fn print_number(self, name: &[u8], expected: u64, got: u64) {
+        self.print_call(STDOUT_FILENO);
+        io::write_all(STDOUT_FILENO, b" ");
+        io::write_all(STDOUT_FILENO, name);
+        print_count(STDOUT_FILENO, b" expected ", expected);
+        print_count(STDOUT_FILENO, b" got ", got);
+        io::write_all(STDOUT_FILENO, b"\n");
+    }
+
+    // Compares a number of the last call's answer, and prints it where it differs.
+    pub fn number(self, name: &[u8], expected: u64, got: u64) -> Self
+        ensures { λ r. ⌜ r ≡ compared self expected got ⌝ }
+    {
+        if expected == got {
+            return self;
+        }
+        if self.differences < PRINTED {
+            self.print_number(name, expected, got);
+        }
+        self.differs()
+    }
+
     // Compares a number that has one byte in the file.
-    pub fn byte(self, name: &[u8], expected: u8, got: u64) -> Self {
+    pub fn byte(self, name: &[u8], expected: u8, got: u64) -> Self
+        ensures { λ r. ⌜ r ≡ compared self expected got ⌝ }
+    {
         self.number(name, expected as u64, got)
     }
 
+    fn print_sample(self, place: usize, expected: u32, got: u32) {
+        self.print_call(STDOUT_FILENO);
+        print_count(STDOUT_FILENO, b" sample ", place as u64);
+        io::write_all(STDOUT_FILENO, b" expected ");
+        io::print_hex(STDOUT_FILENO, expected as u64, 8);
+        io::write_all(STDOUT_FILENO, b" got ");
+        io::print_hex(STDOUT_FILENO, got as u64, 8);
+        io::write_all(STDOUT_FILENO, b"\n");
+    }
+
     // Compares a sample of the last call's answer by its bits, any NaN with any NaN.
-    pub fn sample(mut self, place: usize, expected: f32, got: f32) -> Self {
+    pub fn sample(self, place: usize, expected: f32, got: f32) -> Self
+        ensures { λ r. ⌜ r ≡ compared self (toBits binary32 expected) (toBits binary32 got) ⌝ }
+    {
         let expected = bits_of(expected);
         let got = bits_of(got);
         if expected == got {
             return self;
         }
         if self.differences < PRINTED {
-            self.print_call(STDOUT_FILENO);
-            print_count(STDOUT_FILENO, b" sample ", place as u64);
-            io::write_all(STDOUT_FILENO, b" expected ");
-            io::print_hex(STDOUT_FILENO, expected as u64, 8);
-            io::write_all(STDOUT_FILENO, b" got ");
-            io::print_hex(STDOUT_FILENO, got as u64, 8);
-            io::write_all(STDOUT_FILENO, b"\n");
+            self.print_sample(place, expected, got);
         }
-        self.differences = next(self.differences);
-        self
+        self.differs()
     }
 
     // The counts, on a line.

@@ -6,7 +6,7 @@ use Rattle.encoder.proofs.frame.next.Tie as tie
 
 returns : tie.Need-returns
 unfolding nextState
-returns c = rw (c .last-114 .ensures, c .before .before .last-276 .ensures, c .before .before .before .before .last-60 .ensures)
+returns c = rw (c .last-114 .ensures, c .before .last-276 .ensures, c .before .before .last-60 .ensures)
 
 pub next-spec : {M : Type 1} → statement M
 next-spec =

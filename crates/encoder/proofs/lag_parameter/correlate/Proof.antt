@@ -1,69 +1,99 @@
--- `correlate` fills one entry a turn.
-use Prim.Native.Nat.{_+_, _-_, _≤_}
-use mathlib.Core.Path.{_≡_}
-use lib.ListN.{length, take}
-use Rattle.encoder.specs.Sums.{productSum, window, listed}
-use Rattle.encoder.specs.LagParameter.{correlated}
-use Rattle.encoder.proofs.Listed.{fill-one, filled}
+-- `correlate` sums over the windows of all lags side by side, and turns them round.
+use Prim.Native.Nat.{ℕ, _+_, _-_, _/_, _≤_, _<_}
+use mathlib.Core.Path.{_≡_, sym, _∙_}
+use mathlib.Core.List.{List, _++_}
+use native.Mathlib.Nat.{div-add-mod', mod-lt}
+use native.Mathlib.Omega.{arith}
 use borrow.Author.Needs.{needs}
+use lib.Ieee.{Float, binary32, ofBits}
+use lib.ListN.{length, take, drop, replicate, length-append}
+use lib.Seq.{length-take-le, take-at}
+use Rattle.floats.specs.Single.{at}
+use Rattle.encoder.specs.Sums.{productSum, window}
+use Rattle.encoder.specs.Blocks.{eight}
+use Rattle.encoder.specs.LagParameter.{correlated}
+use Rattle.encoder.proofs.Listed.{turned}
+use Rattle.encoder.proofs.Blocks.{length-three, three-in}
 use Rattle.encoder.proofs.lag_parameter.correlate.Statement.{statement}
 use Rattle.encoder.proofs.lag_parameter.correlate.Tie as tie
 
-abbrev Inv-loop : tie.InvT-loop
-Inv-loop x start len12p8 from r-12p8₀ j₀ j-end r-12p8 j = (j ≤ j-end) × (j-end ≡ length r-12p8₀) × (length r-12p8 ≡ length r-12p8₀) × (take j r-12p8 ≡ listed (λ i. productSum (window x start) (window x (start - (from + i))) len12p8) j)
+abbrev zeros : List Float
+zeros = replicate 17 (ofBits binary32 0)
 
-abbrev μ-loop : tie.MeasureT-loop
-μ-loop x start len12p8 from r-12p8₀ j₀ j-end r-12p8 j = j-end - j
+-- the part of the buffer that is lent
+fits : (c : tie.Start) → length (take (length (c .args .r-12p8 .now)) zeros) ≡ length (c .args .r-12p8 .now)
+fits c = length-take-le _ zeros (omega (arith, c .pre))
 
-loop-holds : tie.Need-loop-holds Inv-loop μ-loop
-unfolding listed
-loop-holds c = search needs
+slice-aggregate-put-sums : tie.Need-slice-aggregate-put-sums
+slice-aggregate-put-sums c = sym (fits (c .before .before .before))
 
-add-sum-of-products : tie.Need-add-sum-of-products Inv-loop μ-loop
-add-sum-of-products c = search needs
+put-sums-requires : tie.Need-put-sums-requires
+put-sums-requires c κs =
+    let g = c .before .before .before in
+    let d = div-add-mod' (length (g .args .r-12p8 .now) - 8) 2 in
+    rw (fits g) ((search needs, omega (arith, g .pre), omega (arith, g .pre)), (omega (arith, g .pre), omega (arith, g .pre, d), omega (arith, g .pre)))
 
-sub-sum-of-products : tie.Need-sub-sum-of-products Inv-loop μ-loop
-sub-sum-of-products c = search needs
+-- the sum over window i, and the buffer's part once it is filled
+abbrev sum : tie.Start → ℕ → Float
+sum g i = let a = g .args in productSum (window (a .x .now) (a .start)) (window (a .x .now) (a .start + 1 - (a .from + length (a .r-12p8 .now)) + i)) (a .len12p8)
 
-sum-of-products-requires : tie.Need-sum-of-products-requires Inv-loop μ-loop
-sum-of-products-requires c κs = search needs
+abbrev part : tie.Start → List Float
+part g =
+    let n = length (g .args .r-12p8 .now) in
+    eight (sum g) (n - 8) (eight (sum g) ((n - 8) / 2) (eight (sum g) 0 (take n zeros)))
 
-mul-r-12p8 : tie.Need-mul-r-12p8 Inv-loop μ-loop
-mul-r-12p8 c = search needs
+seen : (c : tie.After-put-sums) →
+    let n = length (c .before .before .before .before .args .r-12p8 .now) in
+    (length (c .put-sums .last .1 .1 .1 .1 .0) ≡ n) × (take n (c .put-sums .last .1 .1 .1 .1 .0 ++ drop n zeros) ≡ part (c .before .before .before .before))
+seen c =
+    let long = c .put-sums .kept .1 .1 .1 .1 .0 ∙ fits (c .before .before .before .before) in
+    (long, take-at _ _ _ long ∙ c .put-sums .ensures)
 
-slice-write-r-12p8 : tie.Need-slice-write-r-12p8 Inv-loop μ-loop
-slice-write-r-12p8 c = search needs
+part-length : (g : tie.Start) → length (part g) ≡ length (g .args .r-12p8 .now)
+part-length g =
+    let d = div-add-mod' (length (g .args .r-12p8 .now) - 8) 2 in
+    length-three (sum g) 0 _ _ (take (length (g .args .r-12p8 .now)) zeros) (omega (arith, fits g, g .pre)) (omega (arith, fits g, g .pre, d)) (omega (arith, fits g, g .pre)) ∙ fits g
 
-add-j : tie.Need-add-j Inv-loop μ-loop
-add-j c = search needs
+part-at : (g : tie.Start) (k : ℕ) → k < length (g .args .r-12p8 .now) → at (part g) k ≡ sum g k
+part-at g k h =
+    let d = div-add-mod' (length (g .args .r-12p8 .now) - 8) 2 in
+    let m = mod-lt (length (g .args .r-12p8 .now) - 8) {m = 2} (omega arith) in
+    three-in (sum g) 0 _ _ (take (length (g .args .r-12p8 .now)) zeros) (omega (arith, fits g, g .pre)) (omega (arith, fits g, g .pre, d)) (omega (arith, fits g, g .pre)) k
+    (omega arith) (omega (arith, g .pre, d)) (omega (arith, g .pre, d, m)) (omega (arith, g .pre))
 
-loop-less : tie.Need-loop-less Inv-loop μ-loop
-loop-less c = search needs
+array-share-prefix-sums : tie.Need-array-share-prefix-sums
+array-share-prefix-sums c = rw length-append (omega (arith, seen (c .before)))
 
-loop-again : tie.Need-loop-again Inv-loop μ-loop
-loop-again c = let x = c .before .before .before .loop in (search needs, search needs, search needs, fill-one _ (x .r-12p8) (x .j) (c .sum-of-products .result) (search needs) (x .inv .3) (c .sum-of-products .ensures))
+slice-aggregate-turn-round : tie.Need-slice-aggregate-turn-round
+slice-aggregate-turn-round c = rw (seen (c .before .before) .1) (sym (part-length (c .before .before .before .before .before .before)))
 
-same-length : tie.Need-same-length Inv-loop μ-loop
-same-length c = search needs
+turn-round-requires : tie.Need-turn-round-requires
+turn-round-requires c κs = rw (seen (c .before .before .before) .1) (part-length (c .before .before .before .before .before .before .before))
 
-returns : tie.Need-returns Inv-loop μ-loop
+returns : tie.Need-returns
 unfolding correlated
-returns c = filled _ _ _ (c .before .loop .j) (search needs) (search needs) (search needs) (c .before .loop .inv .3)
+returns c =
+    let t = c .before .before in
+    let g = t .before .before .before .before .before .before .before .before in
+    let a = g .args in
+    let n = length (a .r-12p8 .now) in
+    t .turn-round .ensures
+    ∙ rw (seen (t .before .before .before .before) .1)
+    (turned (sum g) _ (part g) n (part-length g) (part-at g) (λ k h. let i : a .start + 1 - (a .from + n) + (n - 1 - k) ≡ a .start - (a .from + k) = omega (arith, g .pre) in rw i))
 
 pub correlate-spec : {M : Type 1} → statement M
 correlate-spec =
     tie.close
     (tie.spec
-    Inv-loop
-    μ-loop
-    loop-holds
-    add-sum-of-products
-    sub-sum-of-products
-    sum-of-products-requires
-    mul-r-12p8
-    slice-write-r-12p8
-    add-j
-    loop-less
-    loop-again
-    same-length
+    (λ c. search needs)
+    (λ c. search needs)
+    (λ c. search needs)
+    (λ c. search needs)
+    (λ c. search needs)
+    slice-aggregate-put-sums
+    put-sums-requires
+    array-share-prefix-sums
+    slice-aggregate-turn-round
+    turn-round-requires
+    (λ c. search needs)
     returns)

@@ -49,7 +49,12 @@ slice-aggregate-correlate : tie.Need-slice-aggregate-correlate
 slice-aggregate-correlate c = sym (length-take-le (count (c .before)) zeros (bounds (c .before) .1))
 
 correlate-requires : tie.Need-correlate-requires
-correlate-requires c κs = (search needs, omega (arith, bounds (c .before), length-take-le (count (c .before)) zeros (bounds (c .before) .1), c .before .before .before .before .pre))
+correlate-requires c κs =
+    let s = c .before .before .before .before in
+    let b = bounds (c .before) in
+    let l = length-take-le (count (c .before)) zeros (b .1) in
+    let m = lag-bounds (s .args .t-curr) (s .pre .2) (s .pre .3) in
+    ((search needs, omega (arith, m .0, c .before .before .k-min .ensures), omega (arith, b, l, s .pre)), (omega (arith, b, l), omega (arith, b, l)))
 
 -- the part of the buffer after it has been filled
 seen : (c : tie.After-correlate) →

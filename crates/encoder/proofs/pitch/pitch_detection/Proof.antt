@@ -1,11 +1,11 @@
 -- `pitch_detection` puts the lags and their normalised correlations together.
 use Prim.Native.Nat.{ℕ, _≤_}
-use mathlib.Core.Path.{_≡_, _∙_}
-use mathlib.Core.Bool.{true, false}
+use mathlib.Core.Path.{_≡_, refl, _∙_}
+use mathlib.Core.Bool.{Bool, true, false, cond}
 use lib.Ieee.{Float, binary32, lt, ofBits, round}
-use Rattle.floats.specs.Single.{_⊗_}
+use Rattle.floats.specs.Single.{_⊗_, decimal}
 use native.Mathlib.Omega.{arith}
-use Rattle.encoder.specs.Pitch.{correlations, lag1, lag2, normalised, detected, chosen}
+use Rattle.encoder.specs.Pitch.{correlations, lag1, lag2, normalised, detected, judged, chosen}
 use Rattle.encoder.proofs.Pitches.{lag1-range, lag2-range, correlations-length, correlations-at}
 use borrow.Author.Needs.{needs}
 use Rattle.encoder.proofs.pitch.pitch_detection.Statement.{statement}
@@ -52,16 +52,16 @@ normalised-correlation-requires : tie.Need-normalised-correlation-requires
 normalised-correlation-requires c κs = omega (arith, range1 c)
 
 sub-normalised-correlation-2 : tie.Need-sub-normalised-correlation-2
-sub-normalised-correlation-2 c = omega (arith, range2 (c .before))
+sub-normalised-correlation-2 c = omega (arith, range2 (c .before .before))
 
 mul-normalised-correlation-2 : tie.Need-mul-normalised-correlation-2
-mul-normalised-correlation-2 c = omega (arith, range2 (c .before))
+mul-normalised-correlation-2 c = omega (arith, range2 (c .before .before))
 
 array-read-normalised-correlation-2 : tie.Need-array-read-normalised-correlation-2
-array-read-normalised-correlation-2 c = omega (arith, range2 (c .before))
+array-read-normalised-correlation-2 c = omega (arith, range2 (c .before .before))
 
 normalised-correlation-requires-2 : tie.Need-normalised-correlation-requires-2
-normalised-correlation-requires-2 c κs = omega (arith, range2 (c .before))
+normalised-correlation-requires-2 c κs = omega (arith, range2 (c .before .before))
 
 is-norm1 : (c : tie.After-normalised-correlation) →
     let a = c .before .before .before .before .before .before .args in
@@ -72,31 +72,52 @@ is-norm1 c =
     ∙ rw (c .before .before .before .before .before .correlations .ensures, correlations-at _ _ _ (range1 (c .before) .0) (range1 (c .before) .1))
 
 is-norm2 : (c : tie.After-normalised-correlation2) →
-    let a = c .before .before .before .before .before .before .before .args in
-    c .normalised-correlation2 .result ≡ normalised (a .x-6p4 .now) (a .len6p4) (c .before .before .lag-t2 .result)
+    let a = c .before .before .before .before .before .before .before .before .args in
+    c .normalised-correlation2 .result ≡ normalised (a .x-6p4 .now) (a .len6p4) (c .before .before .before .lag-t2 .result)
 unfolding normalised
 is-norm2 c =
     c .normalised-correlation2 .ensures
-    ∙ rw (c .before .before .before .before .before .before .correlations .ensures, correlations-at _ _ _ (range2 (c .before .before) .0) (range2 (c .before .before) .1))
+    ∙ rw (c .before .before .before .before .before .before .before .correlations .ensures, correlations-at _ _ _ (range2 (c .before .before .before) .0) (range2 (c .before .before .before) .1))
 
--- the choice in the code's constants
-second : (t1 : ℕ) (n1 : Float) (t2 : ℕ) (n2 : Float) → lt (ofBits binary32 1062836634 ⊗ n1) n2 ≡ true →
-    record { «t_curr» = t2; present = lt (ofBits binary32 1058642330) n2 } ≡ chosen t1 n1 t2 n2
+-- the choice in the code's constant
+second : (t1 : ℕ) (n1 : Float) (t2 : ℕ) (n2 : Float) → lt (ofBits binary32 1062836634 ⊗ n1) n2 ≡ true → judged t2 n2 ≡ chosen t1 n1 t2 n2
 unfolding chosen ofBits round
 second t1 n1 t2 n2 h = rw h
 
-first : (t1 : ℕ) (n1 : Float) (t2 : ℕ) (n2 : Float) → lt (ofBits binary32 1062836634 ⊗ n1) n2 ≡ false →
-    record { «t_curr» = t1; present = lt (ofBits binary32 1058642330) n1 } ≡ chosen t1 n1 t2 n2
+first : (t1 : ℕ) (n1 : Float) (t2 : ℕ) (n2 : Float) → lt (ofBits binary32 1062836634 ⊗ n1) n2 ≡ false → judged t1 n1 ≡ chosen t1 n1 t2 n2
 unfolding chosen ofBits round
 first t1 n1 t2 n2 h = rw h
 
+-- one lag, either way
+either : (t : ℕ) (n : Float) → judged t n ≡ chosen t n t n
+unfolding chosen
+either t n = go (lt (decimal 85 2 ⊗ n) n)
+  where
+    go : (b : Bool) → judged t n ≡ cond b (judged t n) (judged t n)
+    go true = refl
+    go false = refl
+
 returns : tie.Need-returns
 unfolding detected
-returns c = rw (← is-lag1 (c .before .before .before), ← is-lag2 (c .before .before .before), ← is-norm1 (c .before .before), ← is-norm2 (c .before)) (second _ _ _ _ (c .if1 .taken))
+returns c =
+    let t = c .before in
+    c .judged .ensures ∙ rw (← is-lag1 (t .before .before), ← is-lag2 (t .before .before), ← t .if1 .taken, ← is-norm1 (t .before)) (either _ _)
 
 returns-2 : tie.Need-returns-2
 unfolding detected
-returns-2 c = rw (← is-lag1 (c .before .before .before), ← is-lag2 (c .before .before .before), ← is-norm1 (c .before .before), ← is-norm2 (c .before)) (first _ _ _ _ (c .if1 .left))
+returns-2 c =
+    let t = c .before in
+    let n = t .before in
+    let l = n .before .before .before in
+    c .judged2 .ensures ∙ rw (← is-lag1 l, ← is-lag2 l, ← is-norm1 (n .before .before), ← is-norm2 n) (second _ _ _ _ (t .if2 .taken))
+
+returns-3 : tie.Need-returns-3
+unfolding detected
+returns-3 c =
+    let t = c .before in
+    let n = t .before in
+    let l = n .before .before .before in
+    c .judged3 .ensures ∙ rw (← is-lag1 l, ← is-lag2 l, ← is-norm1 (n .before .before), ← is-norm2 n) (first _ _ _ _ (t .if2 .left))
 
 pub pitch-detection-spec : {M : Type 1} → statement M
 pitch-detection-spec =
@@ -110,9 +131,13 @@ pitch-detection-spec =
     mul-normalised-correlation
     array-read-normalised-correlation
     normalised-correlation-requires
+    (λ c κs. search needs)
+    returns
     sub-normalised-correlation-2
     mul-normalised-correlation-2
     array-read-normalised-correlation-2
     normalised-correlation-requires-2
-    returns
-    returns-2)
+    (λ c κs. search needs)
+    returns-2
+    (λ c κs. search needs)
+    returns-3)

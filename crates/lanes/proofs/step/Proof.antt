@@ -1,0 +1,10 @@
+-- `step` is a step of each.
+use borrow.Author.Needs.{needs}
+use Rattle.lanes.proofs.step.Statement.{statement}
+use Rattle.lanes.proofs.step.Tie as tie
+
+returns : tie.Need-returns
+returns c = cc
+
+pub step-spec : {M : Type 1} → statement M
+step-spec = tie.close (tie.spec (λ c κs. search needs) (λ c κs. search needs) (λ c κs. search needs) returns)
