@@ -1,11 +1,11 @@
 // The encoder of the long-term post filter: a frame of samples in, its pitch record and the next
 // state out. A state comes from `state::start`, and each frame is a call of its `frame`.
 mod accept;
-mod activation;
+pub mod activation;
 mod found;
 pub mod frame;
 mod halving;
-mod highpass;
+pub mod highpass;
 mod lag_parameter;
 mod pitch;
 mod resample;

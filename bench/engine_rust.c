@@ -1,0 +1,52 @@
+// The given Rust, through the C face of bench/rust.
+#include "engine.h"
+
+void *rust_decoder_start(uint32_t rate, uint32_t duration);
+void rust_decoder_frame(void *decoder, uint32_t present, uint32_t index, uint32_t active, uint32_t nbits,
+                        float *samples, size_t count);
+void *rust_encoder_start(uint32_t rate, uint32_t duration);
+void rust_encoder_frame(void *encoder, const int16_t *samples, size_t count, uint32_t nbits,
+                        uint32_t near_nyquist, uint32_t *record);
+
+static void *decoder, *encoder;
+static size_t frame;
+static float decoder_buffer[MAX_FRAME];
+static int16_t encoder_buffer[MAX_FRAME];
+
+static bool start(const struct setting *setting)
+{
+    frame = setting->frame;
+    decoder = rust_decoder_start(setting->rate, setting->duration);
+    encoder = rust_encoder_start(setting->rate, setting->duration);
+    return true;
+}
+
+static float *decoder_samples(void)
+{
+    return decoder_buffer;
+}
+
+static float *decoder_frame(const struct side *side)
+{
+    rust_decoder_frame(decoder, side->active, side->index, side->active, side->nbits, decoder_buffer, frame);
+    return decoder_buffer;
+}
+
+static int16_t *encoder_samples(void)
+{
+    return encoder_buffer;
+}
+
+static void encoder_frame(uint32_t nbits, struct record *record)
+{
+    uint32_t numbers[4];
+    rust_encoder_frame(encoder, encoder_buffer, frame, nbits, 0, numbers);
+    // The Rust may give an index or an active mark to an absent pitch; ours does not.
+    record->present = numbers[0];
+    record->index = numbers[0] ? numbers[1] : 0;
+    record->active = numbers[0] ? numbers[2] : 0;
+}
+
+const struct engine rust_engine = {
+    "Rust", true, start, decoder_samples, decoder_frame, encoder_samples, encoder_frame,
+};

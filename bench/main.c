@@ -1,0 +1,160 @@
+// Measures the Rust, liblc3 (where it was built in) and our library side by side, and prints the table.
+// Its argument is the listing program's speed in MB/s, which is measured beforehand and goes into the table.
+#include "cases.h"
+#include "measure.h"
+#include "slowest.h"
+#include "tables.h"
+#include <stdio.h>
+
+#define ROWS(rate) \
+    numerator_##rate.values, denominator_##rate.values, sizeof numerator_##rate / 4, sizeof denominator_##rate / 4
+
+static const struct setting settings[] = {
+    {8000, 10000, 80, ROWS(8000)},    {8000, 7500, 60, ROWS(8000)},     {16000, 10000, 160, ROWS(16000)},
+    {16000, 7500, 120, ROWS(16000)},  {24000, 10000, 240, ROWS(24000)}, {24000, 7500, 180, ROWS(24000)},
+    {32000, 10000, 320, ROWS(32000)}, {32000, 7500, 240, ROWS(32000)},  {44100, 10000, 480, ROWS(48000)},
+    {44100, 7500, 360, ROWS(48000)},  {48000, 10000, 480, ROWS(48000)}, {48000, 7500, 360, ROWS(48000)},
+};
+
+const float *const resampling_row = resampling.values;
+const float *const correlation_row = correlation_interpolation.values;
+const float *const signal_row = signal_interpolation.values;
+
+// A target holds where its worst row does. `worst` is 0 until a row was seen.
+struct target {
+    const char *text;
+    bool is_upper;
+    double limit, worst;
+};
+
+enum { FIVE_TIMES, LIBLC3, THREE_TIMES, COPY, FOUR_TIMES, SLOWEST, TARGETS };
+
+static struct target targets[TARGETS] = {
+    {"decoder at 48000, cases 2, 4 and 5: times as fast as the Rust", false, 5, 0},
+    {"decoder at 48000, cases 2, 4 and 5: times as fast as liblc3", false, 1, 0},
+    {"decoder at 8000 and 16000, cases 2, 4 and 5: times as fast as the Rust", false, 3, 0},
+    {"decoder at 48000, case 1: nanoseconds", true, 400, 0},
+    {"encoder at every rate: times as fast as the Rust", false, 4, 0},
+    {"slowest frame over the typical one of its case", true, 3, 0},
+};
+
+static void hold(int which, double value)
+{
+    struct target *target = &targets[which];
+    if (target->worst == 0 || (target->is_upper ? value > target->worst : value < target->worst))
+        target->worst = value;
+}
+
+static void hold_decoder(const struct setting *setting, int which, double rust, double liblc3, double ours)
+{
+    if (setting->rate == 48000 && which == 1)
+        hold(COPY, ours);
+    if (which != 2 && which != 4 && which != 5)
+        return;
+    if (setting->rate == 8000 || setting->rate == 16000)
+        hold(THREE_TIMES, rust / ours);
+    if (setting->rate == 48000)
+        hold(FIVE_TIMES, rust / ours);
+    if (setting->rate == 48000 && liblc3 > 0)
+        hold(LIBLC3, liblc3 / ours);
+}
+
+// A cell of liblc3's: nothing where it is left out, a dash where it does not know the rate.
+static void print_liblc3(const char *format, double value)
+{
+    if (engine_count < MAX_ENGINES)
+        return;
+    if (value > 0)
+        printf(format, value);
+    else
+        printf(" - |");
+}
+
+static void print_head(void)
+{
+    bool is_in = engine_count == MAX_ENGINES;
+    printf("| Hz | ms | what | Rust ns |%s ours ns | Rust / ours |%s slowest / typical |\n",
+           is_in ? " liblc3 ns |" : "", is_in ? " liblc3 / ours |" : "");
+    printf("|---|---|---|---|---|---|---|%s\n", is_in ? "---|---|" : "");
+}
+
+static void print_row(const struct setting *setting, const char *what, double rust, double liblc3, double ours,
+                      struct slowest slowest)
+{
+    printf("| %u | %s | %s | %.0f |", setting->rate, setting->duration == 10000 ? "10" : "7.5", what, rust);
+    print_liblc3(" %.0f |", liblc3);
+    printf(" %.0f | %.2f |", ours, rust / ours);
+    print_liblc3(" %.2f |", liblc3 / ours);
+    if (slowest.ratio > 0)
+        printf(" %.2f (%s) |\n", slowest.ratio, slowest.signal);
+    else
+        printf(" as above |\n");
+    fflush(stdout);
+}
+
+// The engines in their order: the Rust, ours, liblc3.
+static void measure_setting(const struct setting *setting)
+{
+    char what[32];
+    for (int which = 1; which <= CASES; which++) {
+        struct times times = measure_decoder(setting, which);
+        struct slowest slowest = slowest_decoder(setting, which);
+        snprintf(what, sizeof what, "decoder case %d", which);
+        print_row(setting, what, times.ns[0], times.ns[2], times.ns[1], slowest);
+        hold_decoder(setting, which, times.ns[0], times.ns[2], times.ns[1]);
+        hold(SLOWEST, slowest.ratio);
+    }
+    struct slowest slowest = slowest_encoder(setting);
+    hold(SLOWEST, slowest.ratio);
+    for (int is_voiced = 1; is_voiced >= 0; is_voiced--) {
+        struct times times = measure_encoder(setting, is_voiced);
+        print_row(setting, is_voiced ? "encoder, voiced" : "encoder, noise", times.ns[0], times.ns[2], times.ns[1],
+                  is_voiced ? slowest : (struct slowest){0, ""});
+        hold(FOUR_TIMES, times.ns[0] / times.ns[1]);
+    }
+}
+
+// The Rust and liblc3 have no listing.
+static void print_listing(const char *speed)
+{
+    printf("| - | - | listing | - |");
+    print_liblc3(" - |", 0);
+    printf(" %s MB/s | - |", speed);
+    print_liblc3(" - |", 0);
+    printf(" - |\n");
+}
+
+static void print_targets(void)
+{
+    printf("\n| target | asked | worst | |\n|---|---|---|---|\n");
+    for (int t = 0; t < TARGETS; t++) {
+        const struct target *target = &targets[t];
+        if (target->worst == 0)
+            continue;
+        bool is_met = target->is_upper ? target->worst <= target->limit : target->worst >= target->limit;
+        printf("| %s | %s %g | %.2f | %s |\n", target->text, target->is_upper ? "at most" : "at least", target->limit,
+               target->worst, is_met ? "met" : "MISSED");
+    }
+}
+
+int main(int count_of_words, char **words)
+{
+    if (count_of_words != 2) {
+        fprintf(stderr, "usage: bench LISTING-MB-PER-SECOND\n");
+        return 2;
+    }
+    size_t count = sizeof settings / sizeof *settings;
+    engines[engine_count++] = &rust_engine;
+    engines[engine_count++] = &our_engine;
+#ifdef WITH_LIBLC3
+    engines[engine_count++] = &liblc3_engine;
+#endif
+    print_head();
+    for (size_t i = 0; i < count; i++) {
+        fprintf(stderr, "bench: %u Hz, %u us (%zu of %zu)\n", settings[i].rate, settings[i].duration, i + 1, count);
+        measure_setting(&settings[i]);
+    }
+    print_listing(words[1]);
+    print_targets();
+    return 0;
+}

@@ -1,0 +1,64 @@
+-- What a frame call of the encoder comes to: refused with the state as it was, or done with a state that can be written.
+use Prim.Native.Nat.{ℕ, _≤_}
+use mathlib.Core.Path.{_≡_, refl, ap}
+use mathlib.Core.Bool.{Bool, true, false, cond, _&&_}
+use native.Mathlib.Omega.{arith}
+use borrow.Author.Tests.{leb-true}
+use lib.Dec.{leb, eqb}
+use lib.ListN.{length}
+use Rattle.rates.specs.Answers.{numberOf}
+use Rattle.rates.specs.Configs.{configOf}
+use Rattle.rates.specs.declared.answer.Answer.{Answer}
+use Rattle.rates.specs.declared.answer.Answer.the-variants.{Done, UnfitState, CoefficientCount, CoefficientNotFinite, SampleCount, TooManyBits}
+use Rattle.rates.specs.declared.config.Lc3Config.{Lc3Config}
+use Rattle.rates.specs.declared.config.Configured.{Configured}
+use Rattle.rates.specs.declared.config.Configured.the-variants.{Config, Refused}
+use Rattle.encoder.specs.State.{fitted, fittedBy}
+use Rattle.encoder.specs.Accept.{accepted, acceptedBy, counted, finiteSet}
+use Rattle.encoder.specs.Frame.{refusedFrame, encoded}
+use Rattle.encoder.specs.declared.frame.Frame.{Frame}
+use Rattle.encoder.specs.declared.state.Encoder.{Encoder}
+use Rattle.encoder.proofs.Accepted.{both}
+use Rattle.encoder.proofs.Frames.{stays-fit}
+use Rattle.nabiteke.specs.EncoderCalls.{Given, framedBy}
+
+-- no refusal has the number 0
+pub refused-some : (k : Configured) (f : Given) (a : Answer) → acceptedBy k (f .resampling) (f .correlation) (f .signal) (f .samples) (f .nbits) ≡ Refused a →
+    numberOf a ≡ 0 → ⊥
+refused-some (Refused b) f a e z = let same : UnfitState ≡ a = cc in omega (arith, ap numberOf same)
+refused-some (Config c) f a e z = go (counted (f .resampling) (f .correlation) (f .signal)) (finiteSet (f .resampling) (f .correlation) (f .signal))
+    (eqb (length (f .samples)) (c .nf)) (leb (f .nbits) 3200) e
+  where
+    go : (counts finite samples bits : Bool) →
+        cond counts
+        (cond finite (cond samples (cond bits (Config c) (Refused TooManyBits)) (Refused SampleCount)) (Refused CoefficientNotFinite))
+        (Refused CoefficientCount) ≡ Refused a → ⊥
+    go false y s b q = let same : CoefficientCount ≡ a = cc in omega (arith, ap numberOf same)
+    go true false s b q = let same : CoefficientNotFinite ≡ a = cc in omega (arith, ap numberOf same)
+    go true true false b q = let same : SampleCount ≡ a = cc in omega (arith, ap numberOf same)
+    go true true true false q = let same : TooManyBits ≡ a = cc in omega (arith, ap numberOf same)
+    go true true true true q = let differ : _≡_ {A = ℕ} 0 1 = cc in omega arith
+
+-- a fit state has a small lag
+fit-lag : (e : Encoder) (c : Lc3Config) → fitted e ≡ Config c → e .«t_prev» ≤ 114
+fit-lag e c h = go (configOf (e .rate) (e .duration)) (leb 17 (e .«t_prev») && leb (e .«t_prev») 114) refl h
+  where
+    go : (k : Configured) (b : Bool) → (leb 17 (e .«t_prev») && leb (e .«t_prev») 114) ≡ b → fittedBy k b ≡ Config c → e .«t_prev» ≤ 114
+    go (Config d) true p q = leb-true (e .«t_prev») 114 (both (leb 17 (e .«t_prev»)) (leb (e .«t_prev») 114) p .1)
+    go (Config d) false p q = let differ : _≡_ {A = ℕ} 0 1 = cc in absurd (omega arith)
+    go (Refused a) b p q = let differ : _≡_ {A = ℕ} 0 1 = cc in absurd (omega arith)
+
+-- what a frame call can give
+pub data Outcome (e : Encoder) : Frame → Type 0 where
+  refusal : (a : Answer) → (numberOf a ≡ 0 → ⊥) → Outcome e (refusedFrame e a)
+  success : (r : Frame) → r .answer ≡ Done → r .encoder .«t_prev» ≤ 114 → Outcome e r
+
+pub outcome : (e : Encoder) (f : Given) → Outcome e (framedBy e f)
+unfolding accepted encoded
+outcome e f = go (accepted e (f .resampling) (f .correlation) (f .signal) (f .samples) (f .nbits)) refl
+  where
+    go : (k : Configured) → accepted e (f .resampling) (f .correlation) (f .signal) (f .samples) (f .nbits) ≡ k → Outcome e (framedBy e f)
+    go (Refused a) h = rw h (refusal a (refused-some (fitted e) f a h))
+    go (Config c) h =
+        success (framedBy e f) (rw h)
+        (fit-lag (framedBy e f .encoder) c (stays-fit e (f .resampling) (f .correlation) (f .signal) (f .samples) (f .nbits) (f .near) c h))

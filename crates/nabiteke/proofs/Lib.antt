@@ -1,0 +1,8 @@
+-- Laws of the calls from C, and what the proofs share.
+pub mod Puts
+pub mod DecoderFrames
+pub mod DecoderCalls
+pub mod DecoderLaws
+pub mod EncoderFrames
+pub mod EncoderCalls
+pub mod EncoderLaws

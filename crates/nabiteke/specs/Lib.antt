@@ -1,0 +1,6 @@
+-- What C sees: flags and answers as numbers, then the decoder and the encoder, each first its arrays and then its calls.
+pub mod Words
+pub mod DecoderArrays
+pub mod DecoderCalls
+pub mod EncoderArrays
+pub mod EncoderCalls

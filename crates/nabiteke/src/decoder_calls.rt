@@ -1,0 +1,119 @@
+// The decoder's functions for C.
+use crate::decoder_arrays::read_pitch;
+use crate::decoder_arrays::read_registers;
+use crate::decoder_arrays::registers_from;
+use crate::decoder_arrays::write_numbers;
+use crate::decoder_arrays::write_registers;
+use crate::words::answer_word;
+use crate::words::as_flag;
+use crate::words::is_yes;
+use decoder::frame::frame_in_place;
+use decoder::frame::lost_in_place;
+use decoder::state::Registers;
+use decoder::state::start;
+ghost use mathlib.Core.Path.{_≡_};
+ghost use mathlib.Core.List.{List};
+ghost use lib.Ieee.{Float};
+ghost use Rattle.nabiteke.specs.DecoderArrays.{arrays};
+ghost use Rattle.nabiteke.specs.DecoderCalls.{given, startCall, frameCall, lostCall, settledCall};
+
+// Starts a decoder, or starts it anew.
+#[no_mangle]
+pub extern "C" fn nabiteke_decoder_start_(
+    numbers: &mut [u32; 8],
+    kept: &mut [f32; 24],
+    inputs: &mut [f32; 1080],
+    outputs: &mut [f32; 1080],
+    rate: u32,
+    duration: u32,
+) -> u32
+    ensures { λ r. ⌜ (r, arrays (now (numbers .exit)) (now (kept .exit)) (now (inputs .exit)) (now (outputs .exit))) ≡ startCall rate duration ⌝ }
+{
+    let started = start(rate, duration);
+    let answer = started.answer;
+    let decoder = started.decoder;
+    let c_num = decoder.c_num;
+    let c_den = decoder.c_den;
+    let lag = decoder.lag;
+    let x_hat_mem = decoder.x_hat_mem;
+    let x_hat_ltpf_mem = decoder.x_hat_ltpf_mem;
+    let registers = Registers {
+        rate: decoder.rate,
+        duration: decoder.duration,
+        ltpf_active_prev: decoder.ltpf_active_prev,
+        block_start_index: decoder.block_start_index,
+        c_num,
+        c_den,
+        lag,
+        run: decoder.run,
+        settled: decoder.settled,
+    };
+    write_registers(numbers, kept, registers);
+    *inputs = x_hat_mem;
+    *outputs = x_hat_ltpf_mem;
+    answer_word(answer)
+}
+
+// Filters one frame of samples in place.
+#[no_mangle]
+pub extern "C" fn nabiteke_decoder_frame_(
+    numbers: &mut [u32; 8],
+    kept: &mut [f32; 24],
+    inputs: &mut [f32; 1080],
+    outputs: &mut [f32; 1080],
+    numerators: &[f32],
+    denominators: &[f32],
+    pitch_present: u32,
+    pitch_index: u32,
+    pitch_active: u32,
+    nbits: u32,
+    samples: &mut [f32],
+) -> u32
+    ensures { λ r. ⌜ (r, arrays (now (numbers .exit)) (now (kept .exit)) (now (inputs .exit)) (now (outputs .exit)), now (samples .exit)) ≡ frameCall (arrays (now (numbers .entry)) (now (kept .entry)) (now (inputs .entry)) (now (outputs .entry))) (given (now (numerators .entry)) (now (denominators .entry)) «pitch_present» «pitch_index» «pitch_active» nbits (now (samples .entry))) ⌝ }
+{
+    let registers = read_registers(numbers, kept);
+    let pitch = read_pitch(pitch_present, pitch_index, pitch_active);
+    let stepped = frame_in_place(
+        registers,
+        inputs,
+        outputs,
+        numerators,
+        denominators,
+        pitch,
+        nbits,
+        samples,
+    );
+    let answer = stepped.answer;
+    let word = answer_word(answer);
+    if word != 0 {
+        return word;
+    }
+    let next = stepped.registers;
+    write_registers(numbers, kept, next);
+    0
+}
+
+// Marks that frames were lost before the next one.
+#[no_mangle]
+pub extern "C" fn nabiteke_decoder_lost_(numbers: &mut [u32; 8]) -> u32
+    ensures { λ r. ⌜ ((kept inputs outputs : List Float) → (r, arrays (now (numbers .exit)) kept inputs outputs) ≡ lostCall (arrays (now (numbers .entry)) kept inputs outputs)) ⌝ }
+{
+    let registers = registers_from(numbers, [0.0; 11], [0.0; 13]);
+    let marked = lost_in_place(registers);
+    let answer = marked.answer;
+    let number = answer_word(answer);
+    if number != 0 {
+        return number;
+    }
+    let next = marked.registers;
+    write_numbers(numbers, next);
+    0
+}
+
+// Whether the decoder has settled.
+#[no_mangle]
+pub extern "C" fn nabiteke_decoder_settled_(numbers: &[u32; 8]) -> u32
+    ensures { λ r. ⌜ ((kept inputs outputs : List Float) → r ≡ settledCall (arrays (now (numbers .entry)) kept inputs outputs)) ⌝ }
+{
+    as_flag(is_yes(numbers[7]))
+}
