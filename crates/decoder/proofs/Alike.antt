@@ -41,7 +41,7 @@ append-alike from a b c d h s e =
     }
 
 -- the filter reads no more than the last samples, so it gives the same behind lines that are alike there
-numSum-alike : (num x x′ : List Float) (from i k : ℕ) → from + k ≤ i + 1 → Alike from x x′ → numSum num x i k ≡ numSum num x′ i k
+pub numSum-alike : (num x x′ : List Float) (from i k : ℕ) → from + k ≤ i + 1 → Alike from x x′ → numSum num x i k ≡ numSum num x′ i k
 unfolding numSum
 numSum-alike num x x′ from i zero h s = refl
 numSum-alike num x x′ from i (suc k) h s =

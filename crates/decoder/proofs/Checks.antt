@@ -31,7 +31,7 @@ use Rattle.decoder.specs.declared.state.Registers.{Registers}
 use Rattle.decoder.specs.declared.frame.Framed.{Framed}
 use Rattle.decoder.specs.declared.frame.Stepped.{Stepped}
 use Rattle.decoder.proofs.Sizes.{Known, Sized, known, sized}
-use Rattle.decoder.proofs.Fit.{both, block-inside, inside-of-lag, readable, run-within, fit-known, lag-for-fits}
+use Rattle.decoder.proofs.Fit.{both, block-inside, newest-fits, inside-of-lag, readable, run-within, fit-known, lag-for-fits}
 
 new-inside : (c : Lc3Config) → Known c → (active : Bool) (lag : Lag) (nbits : ℕ) (nums dens : List Float) →
     lagFits (c .fs) active lag ≡ true → active ≡ true → Inside (newTaps c active lag nbits nums dens) (c .history)
@@ -71,12 +71,15 @@ module _ {d : Decoder} {c : Lc3Config} {active : Bool} {lag : Lag} {nums dens fr
     readable = readable (d .«ltpf_active_prev») active (d .lag) _ (oldTaps (c .fs) d) _ (c .history)
         (λ p. inside-of-lag c found (oldTaps (c .fs) d) refl (rw p at (start-and-lag .1)))
         (new-inside c found active lag nbits nums dens (h .lag-fits));
-    block = omega (arith, block-fits);
-    past-x = omega (arith, x, sizes .past-fits);
-    past-y = omega (arith, y, sizes .past-fits);
-    room-x = omega (arith, x, block-fits);
-    room-y = omega (arith, y, block-fits);
-    fade = omega (arith, sizes .fade-fits, h .count);
+    block = block-fits .0;
+    newest = newest-fits c (d .«block_start_index») found (start-and-lag .0);
+    past = sizes .past-fits;
+    inputs = x;
+    outputs = y;
+    fade-least = sizes .fade-least;
+    fade-most = sizes .fade-most;
+    rest = omega (arith, sizes .rest, h .count);
+    twice = omega (arith, sizes .twice, h .count);
     line = omega (arith, sizes .line-fits, h .count);
   }
 

@@ -1,10 +1,10 @@
 -- What a fit state and an accepted frame have: a block inside the history, and filters that read inside it.
-use Prim.Native.Nat.{ℕ, _+_, _-_, _*_, _/_, _%_, _≤_, _<_}
+use Prim.Native.Nat.{ℕ, zero, suc, _+_, _-_, _*_, _/_, _%_, _≤_, _<_}
 use mathlib.Core.Path.{_≡_, refl, sym, subst}
 use mathlib.Core.Bool.{Bool, true, false, cond, not, _&&_, true≢false}
 use native.Mathlib.Nat.{suc-mul, mul-le-mul-right, lt-of-mul-lt-mul-right, div-add-mod'}
 use native.Mathlib.Omega.{arith}
-use borrow.Author.Tests.{leb-true, ltb-true, eqb-true, ltb-false, not-true, le-leb}
+use borrow.Author.Tests.{leb-true, ltb-true, eqb-true, eqb-false, ltb-false, not-true, le-leb}
 use lib.Dec.{leb, ltb, eqb}
 use Rattle.rates.specs.Configs.{frameOf, historyOf, configOf}
 use Rattle.rates.specs.declared.table.Rate.{Rate}
@@ -25,6 +25,7 @@ use Rattle.lag.specs.declared.rescale.FoundLag.{FoundLag}
 use Rattle.lag.proofs.Lags.{quarters-ends, rescaled-never-falls}
 use Rattle.lag.proofs.Reach.{shortest-lag, longest-lag}
 use Rattle.decoder.specs.Coefficients.{gainRow}
+use Rattle.decoder.specs.Blocks.{newestEnd}
 use Rattle.decoder.specs.Required.{Inside, Readable}
 use Rattle.decoder.specs.Transition.{transitionOf, sameLag}
 use Rattle.decoder.specs.Pitch.{isActive, lagWhere, lagFor}
@@ -55,6 +56,23 @@ block-inside c start k h =
         start + c .nf ≤ c .history
     whole-blocks TenMs f p l m = blocks 2 (rw f p) l m
     whole-blocks SevenPointFiveMs f p l m = blocks 3 (rw f p) l m
+
+-- a multiple that is not 0 is at least the number itself
+multiple-least : (n q m : ℕ) → q * n ≡ m → 0 < m → n ≤ m
+multiple-least n zero m e h = absurd (omega arith)
+multiple-least n (suc q) m e h = omega arith
+
+-- and 16 samples at least lie in front of the newest block's end
+pub newest-fits : (c : Lc3Config) (start : ℕ) → Known c → blockFits c start ≡ true → 16 ≤ newestEnd (c .history) start
+unfolding blockFits
+newest-fits c start k h = go (eqb start 0) refl
+  where
+    whole : start / c .nf * c .nf ≡ start
+    whole = omega (arith, div-add-mod' start (c .nf), eqb-true (start % c .nf) 0 (both (ltb start (c .history)) (eqb (start % c .nf) 0) h .1))
+
+    go : (b : Bool) → eqb start 0 ≡ b → 16 ≤ cond b (c .history) start
+    go true p = omega (arith, sized c k)
+    go false p = omega (arith, sized c k, multiple-least (c .nf) (start / c .nf) start whole (omega (arith, eqb-false start 0 p)))
 
 -- a lag that fits lies between the smallest and the largest of its rate, and has a quarter
 pub lag-within : (fs : Rate) (lag : Lag) → lagFits fs true lag ≡ true →

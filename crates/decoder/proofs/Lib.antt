@@ -11,6 +11,8 @@ pub mod Checks
 pub mod StaysFit
 pub mod NotACopy
 pub mod Alike
+pub mod Late
+pub mod EightLanes
 pub mod Judging
 pub mod Held
 pub mod FitStates

@@ -1,4 +1,4 @@
--- The ring's two laws: straightening gives the past, and storing a frame moves the past along by that frame.
+-- The ring's laws: straightening gives the past, its newest samples lie together, and storing a frame moves the past along by that frame.
 use Prim.Native.Nat.{ℕ, _+_, _-_, _≤_}
 use mathlib.Core.Path.{_≡_, refl, _∙_, ap}
 use mathlib.Core.Bool.{Bool, true, false, cond}
@@ -8,9 +8,11 @@ use native.Mathlib.Omega.{arith}
 use borrow.Author.Tests.{eqb-true}
 use lib.Dec.{eqb}
 use lib.ListN.{length, take, drop, length-append, length-take, length-drop}
-use lib.Seq.{take-at, drop-at, take-add, drop-drop, drop-append-le, length-take-le}
+use lib.Seq.{take-at, drop-at, take-add, drop-drop, drop-length, drop-append-le, drop-append-add, length-take-le}
 use lib.Ieee.{Float}
 use Rattle.decoder.specs.Ring.{straight, stored, nextBlock}
+use Rattle.decoder.specs.Blocks.{newestEnd}
+use Rattle.decoder.proofs.StraightLines.{length-straight}
 
 module _ (l block : List Float) (start end : ℕ) (e : start + length block ≡ end) (h : end ≤ length l) where
   front-long : length (take start l ++ block) ≡ end
@@ -30,13 +32,18 @@ module _ (l block : List Float) (start end : ℕ) (e : start + length block ≡ 
   unfolding stored
   length-stored = simp (length-append, length-drop) (omega (arith, length-take-le start l (omega arith)))
 
+-- a block stored at a line's end
+stored-last : (l block : List Float) (start : ℕ) → start + length block ≡ length l → stored l start block ≡ take start l ++ block
+unfolding stored
+stored-last l block start e = rw (e, drop-length l, append-nil)
+
 -- the line that `straighten` fills, part by part, from the ring and the frame
 pub straightened : (line line₁ line₂ line₃ ring frame : List Float) (history start : ℕ) →
-    start ≤ history → history ≤ length ring → history + length frame ≤ length line →
+    start ≤ history → history ≤ length ring → length line ≡ history + length frame →
     line₁ ≡ stored line 0 (take (history - start) (drop start ring)) →
     line₂ ≡ stored line₁ (history - start) (take start ring) →
     line₃ ≡ stored line₂ history frame →
-    take (history + length frame) line₃ ≡ straight ring history start ++ frame
+    line₃ ≡ straight ring history start ++ frame
 unfolding straight
 straightened line line₁ line₂ line₃ ring frame history start s r h e₁ e₂ e₃ =
     let older = take (history - start) (drop start ring) in
@@ -47,7 +54,7 @@ straightened line line₁ line₂ line₃ ring frame history start s r h e₁ e�
     let long₂ : length line₂ ≡ length line = ap length e₂ ∙ length-stored line₁ newer (history - start) history all (omega arith) ∙ long₁ in
     rw (
       e₃,
-      take-stored line₂ frame history (history + length frame) refl (omega arith),
+      stored-last line₂ frame history (omega arith),
       e₂,
       take-stored line₁ newer (history - start) history all (omega arith),
       e₁,
@@ -55,8 +62,54 @@ straightened line line₁ line₂ line₃ ring frame history start s r h e₁ e�
     )
 
 -- a part behind the first n entries
-drop-take : (n k : ℕ) (l : List Float) → n ≤ length l → drop n (take (n + k) l) ≡ take k (drop n l)
+pub drop-take : (n k : ℕ) (l : List Float) → n ≤ length l → drop n (take (n + k) l) ≡ take k (drop n l)
 drop-take n k l h = rw take-add (drop-at (take n l) _ n (length-take-le n l h))
+
+-- the newest block ends inside the history
+pub newest-inside : (history start : ℕ) → start ≤ history → newestEnd history start ≤ history
+newest-inside history start h = go (eqb start 0)
+  where
+    go : (b : Bool) → cond b history start ≤ history
+    go true = omega arith
+    go false = h
+
+-- the newest samples of the past lie together
+newest-past : (ring : List Float) (history start : ℕ) → start ≤ history → history ≤ length ring → 16 ≤ newestEnd history start →
+    drop (history - 16) (straight ring history start) ≡ take 16 (drop (newestEnd history start - 16) ring)
+unfolding straight
+newest-past ring history start s h n = go (eqb start 0) refl n
+  where
+    last : (end k : ℕ) → k + 16 ≡ end → end ≤ history → drop k (take end ring) ≡ take 16 (drop k ring)
+    last end k e l = rw (← e) (drop-take k 16 ring (omega arith))
+
+    go : (b : Bool) → eqb start 0 ≡ b → 16 ≤ cond b history start →
+        drop (history - 16) (take (history - start) (drop start ring) ++ take start ring) ≡ take 16 (drop (cond b history start - 16) ring)
+    go true p l = let z : start ≡ 0 = eqb-true start 0 p in rw (z, sub-zero, append-nil) (last history (history - 16) (omega arith) (omega arith))
+    go false p l =
+        let older = take (history - start) (drop start ring) in
+        let e : history - 16 ≡ length older + (start - 16) = omega (arith, length-take-le (history - start) (drop start ring) (simp length-drop (omega arith))) in
+        rw e (drop-append-add older (take start ring) (start - 16)) ∙ last start (start - 16) (omega arith) s
+
+-- the line that `recent` fills
+pub recently : (line line₁ line₂ ring frame : List Float) (history start : ℕ) →
+    start ≤ history → history ≤ length ring → 16 ≤ newestEnd history start → length line ≡ 16 + length frame →
+    line₁ ≡ stored line 0 (take 16 (drop (newestEnd history start - 16) ring)) →
+    line₂ ≡ stored line₁ 16 frame →
+    line₂ ≡ drop (history - 16) (straight ring history start ++ frame)
+recently line line₁ line₂ ring frame history start s r n h e₁ e₂ =
+    let end = newestEnd history start in
+    let block = take 16 (drop (end - 16) ring) in
+    let inside : end ≤ history = newest-inside history start s in
+    let long : length block ≡ 16 = length-take-le 16 (drop (end - 16) ring) (simp length-drop (omega arith)) in
+    let long₁ : length line₁ ≡ length line = ap length e₁ ∙ length-stored line block 0 16 (omega arith) (omega arith) in
+    rw (
+      e₂,
+      stored-last line₁ frame 16 (omega arith),
+      e₁,
+      take-stored line block 0 16 (omega arith) (omega arith),
+      drop-append-le (history - 16) (straight ring history start) frame (omega (arith, length-straight ring history start s r)),
+      newest-past ring history start s r n,
+    )
 
 -- storing gives the past moved along by a frame
 pub past-moves-along : (ring frame : List Float) (history nf start : ℕ) →

@@ -1,5 +1,5 @@
 -- The lengths that a known rate and duration fix, and their bounds, over the table of rates.
-use Prim.Native.Nat.{ℕ, _+_, _-_, _≤_}
+use Prim.Native.Nat.{ℕ, _+_, _-_, _*_, _≤_}
 use mathlib.Core.Path.{_≡_, refl, subst}
 use mathlib.Core.Bool.{Bool, true, false, cond}
 use native.Mathlib.Omega.{arith}
@@ -47,9 +47,12 @@ bound-both f g s t hz row p SevenPointFiveMs = bound-at (λ (r : Rate). f r Seve
 -- the bounds that the decoder leans on
 pub record Sized (c : Lc3Config) : Type 0 where
   pub frame-some : 1 ≤ c .nf
+  pub twice : 2 * c .nf ≤ c .history
   pub past-fits : c .history ≤ 1080
   pub line-fits : c .history + c .nf ≤ 1440
-  pub fade-fits : c .fs .fade ≤ c .nf
+  pub fade-least : 8 ≤ c .fs .fade
+  pub fade-most : c .fs .fade ≤ 120
+  pub rest : c .fs .fade + 8 ≤ c .nf
   pub least : 2 ≤ c .fs .«l_den»
   pub most : c .fs .«l_den» ≤ 12
   pub taps-fit : c .fs .«l_den» ≤ c .history
@@ -63,9 +66,12 @@ sized c k =
     let d = c .«n_ms» in
     record {
       frame-some = rw (k .frame) (bound-both (λ r d. 1) frameOf tt tt (k .rate) row (k .row) d);
+      twice = rw (k .frame, k .past) (bound-both (λ r d. 2 * frameOf r d) historyOf tt tt (k .rate) row (k .row) d);
       past-fits = rw (k .past) (bound-both historyOf (λ r d. 1080) tt tt (k .rate) row (k .row) d);
       line-fits = rw (k .past, k .frame) (bound-both (λ r d. historyOf r d + frameOf r d) (λ r d. 1440) tt tt (k .rate) row (k .row) d);
-      fade-fits = rw (k .frame) (bound-both (λ r d. r .fade) frameOf tt tt (k .rate) row (k .row) d);
+      fade-least = bound-at (λ r. 8) (λ r. r .fade) tt (k .rate) row (k .row);
+      fade-most = bound-at (λ r. r .fade) (λ r. 120) tt (k .rate) row (k .row);
+      rest = rw (k .frame) (bound-both (λ r d. r .fade + 8) frameOf tt tt (k .rate) row (k .row) d);
       least = bound-at (λ r. 2) (λ r. r .«l_den») tt (k .rate) row (k .row);
       most = bound-at (λ r. r .«l_den») (λ r. 12) tt (k .rate) row (k .row);
       taps-fit = rw (k .past) (bound-both (λ r d. r .«l_den») historyOf tt tt (k .rate) row (k .row) d);

@@ -1,19 +1,21 @@
--- The lines that a frame is filtered on: a straight past with the frame behind it.
+-- The lines that a frame is filtered on: a straight past with the frame behind it, of the inputs only the newest part.
 use Prim.Native.Nat.{ℕ, _+_, _-_, _≤_}
 use mathlib.Core.Path.{_≡_, sym, _∙_}
 use mathlib.Core.List.{List, _++_, append-nil}
 use native.Mathlib.Omega.{arith}
 use lib.ListN.{length, take, drop, length-append, length-take, length-drop, drop-of-length-le}
-use lib.Seq.{take-at, drop-at, drop-append-le}
+use lib.Seq.{take-at, drop-at, drop-drop, take-all}
 use lib.Ieee.{Float}
 use Rattle.rates.specs.declared.config.Lc3Config.{Lc3Config}
 use Rattle.decoder.specs.Ring.{straight, stored}
 use Rattle.decoder.specs.Transition.{outputs}
+use Rattle.decoder.specs.Blocks.{late}
 use Rattle.decoder.specs.Required.{Lines, Filterable}
 use Rattle.decoder.specs.Frame.{filtered}
 use Rattle.decoder.specs.declared.coefficients.Taps.{Taps}
 use Rattle.decoder.specs.declared.transition.Transition.{Transition}
 use Rattle.decoder.specs.declared.transition.Transition.the-variants.{Inactive}
+use Rattle.decoder.proofs.Late.{late-alike, outputs-inputs}
 
 pub length-straight : (ring : List Float) (history start : ℕ) → start ≤ history → history ≤ length ring → length (straight ring history start) ≡ history
 unfolding straight
@@ -21,32 +23,48 @@ length-straight ring history start s h = simp (length-append, length-take, lengt
 
 module _ {t : Transition} {old new : Taps} {c : Lc3Config} {start : ℕ} {xs ys frame : List Float} (f : Filterable t old new c start xs ys frame) where
   past-x : length (straight xs (c .history) start) ≡ c .history
-  past-x = length-straight xs (c .history) start (f .block) (f .past-x)
+  past-x = length-straight xs (c .history) start (omega arith) (omega arith)
 
   past-y : length (straight ys (c .history) start) ≡ c .history
-  past-y = length-straight ys (c .history) start (f .block) (f .past-y)
+  past-y = length-straight ys (c .history) start (omega arith) (omega arith)
 
   -- both lines reach to the end of the frame
-  pub line-x : length (straight xs (c .history) start ++ frame) ≡ c .history + length frame
+  line-x : length (straight xs (c .history) start ++ frame) ≡ c .history + length frame
   line-x = length-append (straight xs (c .history) start) frame ∙ rw past-x
 
-  pub line-y : length (straight ys (c .history) start ++ frame) ≡ c .history + length frame
+  line-y : length (straight ys (c .history) start ++ frame) ≡ c .history + length frame
   line-y = length-append (straight ys (c .history) start) frame ∙ rw past-y
 
-  pub lines : Lines (c .fs .fade) (c .history) (straight xs (c .history) start ++ frame) (straight ys (c .history) start ++ frame)
-  lines = record {
-    frame = omega (arith, line-x, f .fade);
-    long = omega (arith, line-x, f .line);
-    same = line-y ∙ sym line-x;
-    inputs = drop-at (straight ys (c .history) start) frame (c .history) past-y ∙ sym (drop-at (straight xs (c .history) start) frame (c .history) past-x);
-  }
+  recent-x : length (drop (c .history - 16) (straight xs (c .history) start ++ frame)) ≡ 16 + length frame
+  recent-x = simp length-drop (omega (arith, line-x))
+
+  pub lines : Lines (c .fs .fade) (c .history) (drop (c .history - 16) (straight xs (c .history) start ++ frame)) (straight ys (c .history) start ++ frame)
+  lines =
+      let e : c .history - 16 + 16 ≡ c .history = omega arith in
+      record {
+        past = omega arith;
+        fade-least = f .fade-least;
+        fade-most = f .fade-most;
+        frame = omega (arith, recent-x);
+        same = omega (arith, line-y, recent-x);
+        inputs = drop-at (straight ys (c .history) start) frame (c .history) past-y
+            ∙ sym (drop-drop 16 (c .history - 16) (straight xs (c .history) start ++ frame) ∙ rw e (drop-at (straight xs (c .history) start) frame (c .history) past-x));
+      }
 
   -- the outputs of the frame are what lies behind the past
   pub behind : (out : List Float) →
-      out ≡ outputs t old new (c .fs .fade) (straight xs (c .history) start ++ frame) (take (c .history) (straight ys (c .history) start ++ frame)) →
+      out ≡ outputs t old new (c .fs .fade) (late (c .history - 16) (drop (c .history - 16) (straight xs (c .history) start ++ frame)))
+      (take (c .history) (straight ys (c .history) start ++ frame)) →
       drop (c .history) out ≡ filtered t old new c start xs ys frame
   unfolding filtered
-  behind out e = rw (e, take-at (straight ys (c .history) start) frame (c .history) past-y)
+  behind out e =
+      let x = straight xs (c .history) start ++ frame in
+      rw (
+        e,
+        take-at (straight ys (c .history) start) frame (c .history) past-y,
+        outputs-inputs (c .history - 16) (c .fs .fade) (c .history) (late (c .history - 16) (drop (c .history - 16) x)) x (straight ys (c .history) start)
+            (omega (arith, past-y)) (late-alike (c .history - 16) x (omega (arith, line-x))) t old new (f .readable),
+      )
 
 -- the first case leaves the frame as it is
 pub untouched : {old new : Taps} {c : Lc3Config} {start : ℕ} {xs ys frame : List Float} → Filterable Inactive old new c start xs ys frame →
@@ -59,17 +77,9 @@ untouched {c = c} {start = start} {xs = xs} {ys = ys} {frame = frame} f =
     rw (py, drop-at x frame (c .history) (past-x f), drop-at y frame (c .history) py)
 
 -- the part of a line behind its past, put over samples of the same number
-pub put-back : (samples out rest : List Float) (history : ℕ) → length out ≡ history + length samples →
-    stored samples 0 (take (history + length samples - history) (drop history (out ++ rest))) ≡ drop history out
+pub put-back : (samples out : List Float) (history : ℕ) → length out ≡ history + length samples →
+    stored samples 0 (take (length out - history) (drop history out)) ≡ drop history out
 unfolding stored
-put-back samples out rest history e =
-    let n : history + length samples - history ≡ length samples = omega arith in
+put-back samples out history e =
     let l : length (drop history out) ≡ length samples = simp length-drop (omega arith) in
-    rw (
-      n,
-      drop-append-le history out rest (omega arith),
-      take-at (drop history out) rest (length samples) l,
-      l,
-      drop-of-length-le samples {i = 0 + length samples} (omega arith),
-      append-nil,
-    )
+    rw (take-all (length out - history) (drop history out) (simp length-drop (omega arith)), l, drop-of-length-le samples {i = 0 + length samples} (omega arith), append-nil)

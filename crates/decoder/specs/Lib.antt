@@ -2,6 +2,7 @@
 pub mod Coefficients
 pub mod Filter
 pub mod Fade
+pub mod Blocks
 pub mod Transition
 pub mod Ring
 pub mod Pitch

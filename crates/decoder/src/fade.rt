@@ -1,11 +1,18 @@
-// Runs of outputs, faded and unfaded. Each output is computed from those before it.
+// Runs of outputs, faded and unfaded, in blocks of eight. A filter reads no output nearer than 18
+// samples back, so eight can be made side by side. Where eight does not divide their number, the last
+// block begins inside the one before it and makes some outputs again, with the same bits.
+use crate::block::filter_8;
+use crate::block::less_8;
+use crate::block::write_8;
 use crate::coefficients::Taps;
-use crate::filter::compute_filter;
+use lanes::Lanes;
 ghost use mathlib.Core.Path.{_≡_};
 ghost use Prim.Native.Nat.{_+_, _-_, _≤_, _<_};
 ghost use lib.ListN.{length};
 ghost use Rattle.decoder.specs.Required.{Inside};
 ghost use Rattle.decoder.specs.Fade.{factor, faded, steady, grown};
+ghost use Rattle.decoder.specs.Blocks.{listed, sums, less, weighed, late};
+ghost use Rattle.decoder.specs.Ring.{stored};
 
 // A filter fades in by n / fade, and out by one less that.
 pub enum Direction {
@@ -27,7 +34,50 @@ fn fade_factor(direction: Direction, n: usize, fade: usize) -> f32
     }
 }
 
-// Outputs over the fade, behind a history: x less the faded filter.
+// Eight values, each times its factor: the first is at sample n of the fade.
+fn weigh_8(direction: Direction, n: usize, fade: usize, s: Lanes) -> Lanes
+    requires { ⌜ (n + 8 ≤ fade) × (fade < 65536) ⌝ }
+    ensures { λ r. ⌜ r ≡ weighed direction fade n s ⌝ }
+{
+    Lanes {
+        s0: s.s0 * fade_factor(direction, n, fade),
+        s1: s.s1 * fade_factor(direction, n + 1, fade),
+        s2: s.s2 * fade_factor(direction, n + 2, fade),
+        s3: s.s3 * fade_factor(direction, n + 3, fade),
+        s4: s.s4 * fade_factor(direction, n + 4, fade),
+        s5: s.s5 * fade_factor(direction, n + 5, fade),
+        s6: s.s6 * fade_factor(direction, n + 6, fade),
+        s7: s.s7 * fade_factor(direction, n + 7, fade),
+    }
+}
+
+// In what follows x is the inputs of the frame behind 16 samples of their past, and y the outputs
+// behind the whole of theirs. Outputs are counted from the frame's start; `back` is how far before an
+// output the newest one lies that it is made of.
+
+// Eight outputs of the fade, from n on: x less the faded filter.
+fn fade_block(
+    direction: Direction,
+    num: &[f32],
+    den: &[f32],
+    back: usize,
+    x: &[f32],
+    y: &mut [f32],
+    history: usize,
+    fade: usize,
+    n: usize,
+)
+    requires { ⌜ (n + 8 ≤ fade) × (fade < 65536) × (16 + fade ≤ length (now x)) × (history + fade ≤ length (now y)) × (back ≤ history) ⌝ }
+    ensures { λ _. ⌜ now (y .exit) ≡ stored (now (y .entry)) (history + n) (listed (less (now (x .entry)) (16 + n) (weighed direction fade n (sums (now (num .entry)) (now (den .entry)) (now (x .entry)) (16 + n) (now (y .entry)) (history + n - back))))) ⌝ }
+{
+    let i = 16 + n;
+    let at = history + n;
+    let filt_out = filter_8(num, den, x, i, y, at - back);
+    let out = less_8(x, i, weigh_8(direction, n, fade, filt_out));
+    write_8(y, at, out);
+}
+
+// Outputs over the fade, behind a history.
 pub(crate) fn filter_fade(
     direction: Direction,
     taps: Taps,
@@ -36,24 +86,59 @@ pub(crate) fn filter_fade(
     history: usize,
     fade: usize,
 )
-    requires { ⌜ Inside taps history × (fade < 65536) × (history + fade ≤ length (now x)) × (length (now x) ≤ length (now y)) ⌝ }
-    ensures { λ _. ⌜ now (y .exit) ≡ grown (faded direction history fade taps (now (x .entry))) (now (y .entry)) history fade ⌝ }
+    requires { ⌜ Inside taps history × (8 ≤ fade) × (fade < 65536) × (16 + fade ≤ length (now x)) × (history + fade ≤ length (now y)) ⌝ }
+    ensures { λ _. ⌜ now (y .exit) ≡ grown (faded direction history fade taps (late (history - 16) (now (x .entry)))) (now (y .entry)) history fade ⌝ }
 {
-    for n in 0..fade {
-        let at = history + n;
-        let filt_out = compute_filter(taps, x, y, at) * fade_factor(direction, n, fade);
-        y[at] = x[at] - filt_out;
+    let l_den = taps.l_den;
+    let back = taps.lag.whole - l_den / 2;
+    let c_num = taps.c_num;
+    let c_den = taps.c_den;
+    let num = &c_num[..l_den - 1];
+    let den = &c_den[..l_den + 1];
+    for b in 0..fade / 8 {
+        fade_block(direction, num, den, back, x, y, history, fade, 8 * b);
+    }
+    if fade % 8 > 0 {
+        fade_block(direction, num, den, back, x, y, history, fade, fade - 8);
     }
 }
 
-// Outputs from one sample on, to the end of x: x less the filter.
-pub(crate) fn filter_rest(taps: Taps, x: &[f32], y: &mut [f32], from: usize)
-    requires { ⌜ Inside taps from × (from ≤ length (now x)) × (length (now x) ≤ length (now y)) ⌝ }
-    ensures { λ _. ⌜ now (y .exit) ≡ grown (steady taps (now (x .entry))) (now (y .entry)) from (length (now (x .entry)) - from) ⌝ }
+// Eight unfaded outputs from n on: x less the filter.
+fn rest_block(
+    num: &[f32],
+    den: &[f32],
+    back: usize,
+    x: &[f32],
+    y: &mut [f32],
+    history: usize,
+    n: usize,
+)
+    requires { ⌜ (16 + n + 8 ≤ length (now x)) × (history + n + 8 ≤ length (now y)) × (back ≤ history) ⌝ }
+    ensures { λ _. ⌜ now (y .exit) ≡ stored (now (y .entry)) (history + n) (listed (less (now (x .entry)) (16 + n) (sums (now (num .entry)) (now (den .entry)) (now (x .entry)) (16 + n) (now (y .entry)) (history + n - back)))) ⌝ }
 {
-    for n in 0..x.len() - from {
-        let at = from + n;
-        let filt_out = compute_filter(taps, x, y, at);
-        y[at] = x[at] - filt_out;
+    let i = 16 + n;
+    let at = history + n;
+    let filt_out = filter_8(num, den, x, i, y, at - back);
+    let out = less_8(x, i, filt_out);
+    write_8(y, at, out);
+}
+
+// Outputs from one on, to the end of the frame.
+pub(crate) fn filter_rest(taps: Taps, x: &[f32], y: &mut [f32], history: usize, from: usize)
+    requires { ⌜ Inside taps history × (16 + from + 8 ≤ length (now x)) × (history + length (now x) ≤ 16 + length (now y)) ⌝ }
+    ensures { λ _. ⌜ now (y .exit) ≡ grown (steady taps (late (history - 16) (now (x .entry)))) (now (y .entry)) (history + from) (length (now (x .entry)) - (16 + from)) ⌝ }
+{
+    let l_den = taps.l_den;
+    let back = taps.lag.whole - l_den / 2;
+    let c_num = taps.c_num;
+    let c_den = taps.c_den;
+    let num = &c_num[..l_den - 1];
+    let den = &c_den[..l_den + 1];
+    let len = x.len() - (16 + from);
+    for b in 0..len / 8 {
+        rest_block(num, den, back, x, y, history, from + 8 * b);
+    }
+    if len % 8 > 0 {
+        rest_block(num, den, back, x, y, history, from + len - 8);
     }
 }

@@ -2,9 +2,9 @@
 // loss mark.
 mod accept;
 mod advance;
+mod block;
 mod coefficients;
 mod fade;
-mod filter;
 mod fitness;
 pub mod frame;
 mod in_range;

@@ -1,9 +1,10 @@
 // The ring that holds the used history in blocks of a frame: read straight, oldest first, and stored into.
 ghost use mathlib.Core.Path.{_≡_};
 ghost use mathlib.Core.List.{_++_};
-ghost use Prim.Native.Nat.{_+_, _≤_};
-ghost use lib.ListN.{length, take};
+ghost use Prim.Native.Nat.{_+_, _-_, _≤_};
+ghost use lib.ListN.{length, drop};
 ghost use Rattle.decoder.specs.Ring.{straight, stored, nextBlock};
+ghost use Rattle.decoder.specs.Blocks.{newestEnd};
 
 // Copies a block into a slice, from the place given.
 pub(crate) fn put(into: &mut [f32], at: usize, block: &[f32])
@@ -21,19 +22,45 @@ pub(crate) fn straighten(
     history: usize,
     block_start_index: usize,
     frame: &[f32],
-) -> [f32; 1440]
-    requires { ⌜ («block_start_index» ≤ history) × (history ≤ length (now ring)) × (history + length (now frame) ≤ 1440) ⌝ }
-    ensures { λ r. ⌜ take (history + length (now (frame .entry))) r ≡ straight (now (ring .entry)) history «block_start_index» ++ now (frame .entry) ⌝ }
+    line: &mut [f32],
+)
+    requires { ⌜ («block_start_index» ≤ history) × (history ≤ length (now ring)) × (length (now line) ≡ history + length (now frame)) ⌝ }
+    ensures { λ _. ⌜ now (line .exit) ≡ straight (now (ring .entry)) history «block_start_index» ++ now (frame .entry) ⌝ }
 {
-    let mut line = [0.0; 1440];
-    put(&mut line, 0, &ring[block_start_index..history]);
+    put(line, 0, &ring[block_start_index..history]);
     put(
-        &mut line,
+        line,
         history - block_start_index,
         &ring[..block_start_index],
     );
-    put(&mut line, history, frame);
-    line
+    put(line, history, frame);
+}
+
+// Where the newest block ends: before the next block, or behind the last.
+fn newest_end(history: usize, block_start_index: usize) -> usize
+    ensures { λ r. ⌜ r ≡ newestEnd history «block_start_index» ⌝ }
+{
+    if block_start_index == 0 {
+        history
+    } else {
+        block_start_index
+    }
+}
+
+// The last 16 samples of the past, with a frame behind them.
+pub(crate) fn recent(
+    ring: &[f32],
+    history: usize,
+    block_start_index: usize,
+    frame: &[f32],
+    line: &mut [f32],
+)
+    requires { ⌜ («block_start_index» ≤ history) × (history ≤ length (now ring)) × (16 ≤ newestEnd history «block_start_index») × (length (now line) ≡ 16 + length (now frame)) ⌝ }
+    ensures { λ _. ⌜ now (line .exit) ≡ drop (history - 16) (straight (now (ring .entry)) history «block_start_index» ++ now (frame .entry)) ⌝ }
+{
+    let end = newest_end(history, block_start_index);
+    put(line, 0, &ring[end - 16..end]);
+    put(line, 16, frame);
 }
 
 // Stores a frame into its block.

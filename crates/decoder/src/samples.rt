@@ -1,16 +1,47 @@
-// A frame's samples filtered in place, behind the pasts that two rings hold, and stored into the rings.
+// A frame filtered in place, between the rings that hold its past and take it up.
 use crate::coefficients::Taps;
 use crate::ring::put;
+use crate::ring::recent;
 use crate::ring::store;
 use crate::ring::straighten;
 use crate::transition::Transition;
 use crate::transition::filter_frame;
 use rates::config::Lc3Config;
 ghost use mathlib.Core.Path.{_≡_};
+ghost use Prim.Native.Nat.{_+_};
+ghost use lib.ListN.{length};
 ghost use Rattle.decoder.specs.Frame.{filteredRings};
 ghost use Rattle.decoder.specs.Required.{Filterable};
 
-// Filters the samples and stores inputs and outputs. The first case leaves the samples as they are, and needs no line.
+// Filters on two lines, which it fills: x has the frame behind the last 16 inputs, as far back as a
+// numerator reads and some more, and y behind all past outputs.
+fn filter_on(
+    transition: Transition,
+    old: Taps,
+    new: Taps,
+    config: Lc3Config,
+    start: usize,
+    x_hat_mem: &mut [f32],
+    x_hat_ltpf_mem: &mut [f32],
+    samples: &mut [f32],
+    x: &mut [f32],
+    y: &mut [f32],
+)
+    requires { ⌜ Filterable transition old new config start (now «x_hat_mem») (now «x_hat_ltpf_mem») (now samples) × (length (now x) ≡ 16 + length (now samples)) × (length (now y) ≡ config .history + length (now samples)) ⌝ }
+    ensures { λ _. ⌜ (now («x_hat_mem» .exit), now («x_hat_ltpf_mem» .exit), now (samples .exit)) ≡ filteredRings transition old new config start (now («x_hat_mem» .entry)) (now («x_hat_ltpf_mem» .entry)) (now (samples .entry)) ⌝ }
+{
+    let history = config.history;
+    recent(x_hat_mem, history, start, samples, x);
+    store(x_hat_mem, start, samples);
+    straighten(x_hat_ltpf_mem, history, start, samples, y);
+    filter_frame(transition, old, new, x, y, history, config.fs.fade);
+    put(samples, 0, &y[history..]);
+    store(x_hat_ltpf_mem, start, samples);
+}
+
+// Filters a frame behind the pasts that two rings hold, and stores its inputs and outputs into them.
+// The first case leaves the samples as they are, and needs no line. To clear the long lines would
+// cost the low rates a third of a frame's time, so they have shorter ones.
 pub(crate) fn filter_samples(
     transition: Transition,
     old: Taps,
@@ -29,20 +60,37 @@ pub(crate) fn filter_samples(
         store(x_hat_ltpf_mem, start, samples);
         return;
     }
-    let history = config.history;
-    let total = history + samples.len();
-    let x = straighten(x_hat_mem, history, start, samples);
-    let mut y = straighten(x_hat_ltpf_mem, history, start, samples);
-    store(x_hat_mem, start, samples);
-    filter_frame(
+    let x_len = 16 + samples.len();
+    let y_len = config.history + samples.len();
+    if y_len <= 480 {
+        let mut x = [0.0; 176];
+        let mut y = [0.0; 480];
+        filter_on(
+            transition,
+            old,
+            new,
+            config,
+            start,
+            x_hat_mem,
+            x_hat_ltpf_mem,
+            samples,
+            &mut x[..x_len],
+            &mut y[..y_len],
+        );
+        return;
+    }
+    let mut x = [0.0; 496];
+    let mut y = [0.0; 1440];
+    filter_on(
         transition,
         old,
         new,
-        &x[..total],
-        &mut y[..total],
-        history,
-        config.fs.fade,
+        config,
+        start,
+        x_hat_mem,
+        x_hat_ltpf_mem,
+        samples,
+        &mut x[..x_len],
+        &mut y[..y_len],
     );
-    put(samples, 0, &y[history..total]);
-    store(x_hat_ltpf_mem, start, samples);
 }

@@ -6,8 +6,9 @@ use crate::fade::filter_rest;
 use crate::ring::put;
 use lag::rescale::Lag;
 ghost use mathlib.Core.Path.{_≡_};
-ghost use Prim.Native.Nat.{_≤_};
+ghost use Prim.Native.Nat.{_-_, _≤_};
 ghost use lib.ListN.{length, take};
+ghost use Rattle.decoder.specs.Blocks.{late};
 ghost use Rattle.decoder.specs.Required.{Inside, Lines, Readable};
 ghost use Rattle.decoder.specs.Transition.{transitionOf, outputs, caseActivated, caseDeactivated, casePitchKept, casePitchChanged};
 
@@ -45,22 +46,22 @@ pub(crate) fn transition_of(active_prev: bool, active: bool, lag_prev: Lag, lag:
     Transition::Inactive
 }
 
-// In what follows x is the inputs with their past. y holds the past outputs and, behind them, this
-// frame's inputs, whose place the outputs take.
+// In what follows x is the inputs of the frame behind 16 samples of their past. y holds the past outputs
+// and, behind them, this frame's inputs, whose place the outputs take.
 
 // Second case: the new filter fades in.
 fn activated(new: Taps, x: &[f32], y: &mut [f32], history: usize, fade: usize)
     requires { ⌜ Lines fade history (now x) (now y) × Inside new history ⌝ }
-    ensures { λ _. ⌜ now (y .exit) ≡ caseActivated new fade (now (x .entry)) (take history (now (y .entry))) ⌝ }
+    ensures { λ _. ⌜ now (y .exit) ≡ caseActivated new fade (late (history - 16) (now (x .entry))) (take history (now (y .entry))) ⌝ }
 {
     filter_fade(Direction::In, new, x, y, history, fade);
-    filter_rest(new, x, y, history + fade);
+    filter_rest(new, x, y, history, fade);
 }
 
 // Third case: the old filter fades out.
 fn deactivated(old: Taps, x: &[f32], y: &mut [f32], history: usize, fade: usize)
     requires { ⌜ Lines fade history (now x) (now y) × Inside old history ⌝ }
-    ensures { λ _. ⌜ now (y .exit) ≡ caseDeactivated old fade (now (x .entry)) (take history (now (y .entry))) ⌝ }
+    ensures { λ _. ⌜ now (y .exit) ≡ caseDeactivated old fade (late (history - 16) (now (x .entry))) (take history (now (y .entry))) ⌝ }
 {
     filter_fade(Direction::Out, old, x, y, history, fade);
 }
@@ -68,18 +69,18 @@ fn deactivated(old: Taps, x: &[f32], y: &mut [f32], history: usize, fade: usize)
 // Fourth case: the new filter throughout.
 fn pitch_kept(new: Taps, x: &[f32], y: &mut [f32], history: usize, fade: usize)
     requires { ⌜ Lines fade history (now x) (now y) × Inside new history ⌝ }
-    ensures { λ _. ⌜ now (y .exit) ≡ casePitchKept new (now (x .entry)) (take history (now (y .entry))) ⌝ }
+    ensures { λ _. ⌜ now (y .exit) ≡ casePitchKept new (late (history - 16) (now (x .entry))) (take history (now (y .entry))) ⌝ }
 {
-    filter_rest(new, x, y, history);
+    filter_rest(new, x, y, history, 0);
 }
 
-// A copy of the first samples of a line.
-fn set_aside(y: &[f32], count: usize) -> [f32; 1440]
-    requires { ⌜ (count ≤ length (now y)) × (count ≤ 1440) ⌝ }
-    ensures { λ r. ⌜ take count r ≡ take count (now (y .entry)) ⌝ }
+// A copy of a line, at the front of a new one.
+fn set_aside(y: &[f32]) -> [f32; 136]
+    requires { ⌜ length (now y) ≤ 136 ⌝ }
+    ensures { λ r. ⌜ take (length (now (y .entry))) r ≡ now (y .entry) ⌝ }
 {
-    let mut z = [0.0; 1440];
-    put(&mut z, 0, &y[..count]);
+    let mut z = [0.0; 136];
+    put(&mut z, 0, y);
     z
 }
 
@@ -87,13 +88,12 @@ fn set_aside(y: &[f32], count: usize) -> [f32; 1440]
 // read z, which is set aside; y takes its place from the left, so the denominators read y.
 fn pitch_changed(old: Taps, new: Taps, x: &[f32], y: &mut [f32], history: usize, fade: usize)
     requires { ⌜ Lines fade history (now x) (now y) × Inside old history × Inside new history ⌝ }
-    ensures { λ _. ⌜ now (y .exit) ≡ casePitchChanged old new fade (now (x .entry)) (take history (now (y .entry))) ⌝ }
+    ensures { λ _. ⌜ now (y .exit) ≡ casePitchChanged old new fade (late (history - 16) (now (x .entry))) (take history (now (y .entry))) ⌝ }
 {
-    let faded = history + fade;
     filter_fade(Direction::Out, old, x, y, history, fade);
-    let z = set_aside(y, faded);
-    filter_fade(Direction::In, new, &z[..faded], y, history, fade);
-    filter_rest(new, x, y, faded);
+    let z = set_aside(&y[history - 16..history + fade]);
+    filter_fade(Direction::In, new, &z[..16 + fade], y, history, fade);
+    filter_rest(new, x, y, history, fade);
 }
 
 // The outputs of a frame, by its case.
@@ -107,7 +107,7 @@ pub(crate) fn filter_frame(
     fade: usize,
 )
     requires { ⌜ Lines fade history (now x) (now y) × Readable transition old new history ⌝ }
-    ensures { λ _. ⌜ now (y .exit) ≡ outputs transition old new fade (now (x .entry)) (take history (now (y .entry))) ⌝ }
+    ensures { λ _. ⌜ now (y .exit) ≡ outputs transition old new fade (late (history - 16) (now (x .entry))) (take history (now (y .entry))) ⌝ }
 {
     match transition {
         Transition::Inactive => {}

@@ -1,3 +1,4 @@
--- Each of the eight sums is a sum by itself.
+-- Each of the eight sums is a sum by itself, and its steps may be taken in pairs.
 pub mod EachLane
 pub mod ThreeSums
+pub mod InPairs

@@ -3,7 +3,7 @@
 ghost use mathlib.Core.Path.{_≡_};
 ghost use Prim.Native.Nat.{_+_, _≤_};
 ghost use lib.ListN.{length};
-ghost use Rattle.lanes.specs.Lanes.{all, plus, minus, firAdded, firTaken, holds, Summed, threeCorrelated};
+ghost use Rattle.lanes.specs.Lanes.{all, plus, minus, firInside, firAdded, firTaken, holds, Summed, threeCorrelated};
 
 pub struct Lanes {
     pub s0: f32,
@@ -66,23 +66,39 @@ fn sub_scaled(s: Lanes, c: f32, x: &[f32], i: usize) -> Lanes
     }
 }
 
+// Whether x holds the samples from i − k to i + 7, for every place k of c.
+fn fir_inside(c: &[f32], x: &[f32], i: usize) -> bool
+    ensures { λ r. ⌜ r ≡ firInside (now (c .entry)) (now (x .entry)) i ⌝ }
+{
+    if x.len() < 8 {
+        return false;
+    }
+    if i > x.len() - 8 {
+        return false;
+    }
+    c.len() <= i + 1
+}
+
 // Adds c[k]·x[i − k] for rising k, and so for the seven samples behind i. Where x does not hold all
-// of them, the sums are left as they are.
+// of them, the sums are left as they are. A turn takes two terms: a loop of one term each is made by
+// the compiler into vectors of terms that are added up one by one, which is slow.
 pub fn add_fir(start: Lanes, c: &[f32], x: &[f32], i: usize) -> Lanes
     ensures { λ r. ⌜ r ≡ firAdded start (now (c .entry)) (now (x .entry)) i ⌝ }
 {
-    if x.len() < 8 {
-        return start;
-    }
-    if i > x.len() - 8 {
-        return start;
-    }
-    if c.len() > i + 1 {
+    if !fir_inside(c, x, i) {
         return start;
     }
     let mut s = start;
-    for k in 0..c.len() {
-        s = add_scaled(s, c[k], x, i - k);
+    let pairs = c.len() / 2;
+    for j in 0..pairs {
+        let k = 2 * j;
+        let l = k + 1;
+        let t = add_scaled(s, c[k], x, i - k);
+        s = add_scaled(t, c[l], x, i - l);
+    }
+    let last = 2 * pairs;
+    if last < c.len() {
+        return add_scaled(s, c[last], x, i - last);
     }
     s
 }
@@ -91,18 +107,20 @@ pub fn add_fir(start: Lanes, c: &[f32], x: &[f32], i: usize) -> Lanes
 pub fn sub_fir(start: Lanes, c: &[f32], x: &[f32], i: usize) -> Lanes
     ensures { λ r. ⌜ r ≡ firTaken start (now (c .entry)) (now (x .entry)) i ⌝ }
 {
-    if x.len() < 8 {
-        return start;
-    }
-    if i > x.len() - 8 {
-        return start;
-    }
-    if c.len() > i + 1 {
+    if !fir_inside(c, x, i) {
         return start;
     }
     let mut s = start;
-    for k in 0..c.len() {
-        s = sub_scaled(s, c[k], x, i - k);
+    let pairs = c.len() / 2;
+    for j in 0..pairs {
+        let k = 2 * j;
+        let l = k + 1;
+        let t = sub_scaled(s, c[k], x, i - k);
+        s = sub_scaled(t, c[l], x, i - l);
+    }
+    let last = 2 * pairs;
+    if last < c.len() {
+        return sub_scaled(s, c[last], x, i - last);
     }
     s
 }

@@ -1,44 +1,44 @@
--- `sub_fir` takes step after step; each reads inside x.
-use Prim.Native.Nat.{_+_, _-_, _≤_}
-use mathlib.Core.Path.{_≡_, refl}
-use native.Mathlib.Numerals.{add-one}
+-- `sub_fir` takes two steps a turn; each reads inside x.
+use Prim.Native.Nat.{_+_, _-_, _*_, _/_, _≤_}
+use mathlib.Core.Path.{_≡_, refl, sym, _∙_}
+use mathlib.Core.Bool.{true}
 use native.Mathlib.Omega.{arith}
-use borrow.Author.Needs.{needs}
-use borrow.Author.Tests.{le-leb, lt-leb}
+use borrow.Author.Tests.{not-true, not-false}
 use lib.ListN.{length}
 use Rattle.floats.specs.Single.{at}
-use Rattle.lanes.specs.Lanes.{minus, steps, firTaken}
+use Rattle.lanes.specs.Lanes.{minus, steps, firInside, firTaken}
+use Rattle.lanes.proofs.InPairs.{two-more, one-last, inside}
+use borrow.Author.Needs.{needs}
 use Rattle.lanes.proofs.sub_fir.Statement.{statement}
 use Rattle.lanes.proofs.sub_fir.Tie as tie
 
 abbrev Inv-loop : tie.InvT-loop
-Inv-loop c x i s₀ k₀ k-end s k =
-    ((k ≤ k-end) × (k-end ≡ length c) × (length c ≤ i + 1) × (i + 8 ≤ length x) × (s ≡ steps (λ t k. minus t (at c k) x (i - k)) s₀ k))
+Inv-loop c x i s₀ pairs j₀ s j =
+    (firInside c x i ≡ true) × (j ≤ pairs) × (pairs ≡ length c / 2) × (length c ≤ i + 1) × (i + 8 ≤ length x) × (s ≡ steps (λ t k. minus t (at c k) x (i - k)) s₀ (2 * j))
 
 abbrev μ-loop : tie.MeasureT-loop
-μ-loop c x i s₀ k₀ k-end s k = k-end - k
+μ-loop c x i s₀ pairs j₀ s j = pairs - j
+
+fir-inside-requires : tie.Need-fir-inside-requires Inv-loop μ-loop
+fir-inside-requires c κs = search needs
 
 returns : tie.Need-returns Inv-loop μ-loop
 unfolding firTaken
-returns c = rw (lt-leb (c .before .before .before .args .i + 8) (length (c .before .before .before .args .x .now)) (omega arith))
-
-sub-if2 : tie.Need-sub-if2 Inv-loop μ-loop
-sub-if2 c = omega arith
-
-returns-2 : tie.Need-returns-2 Inv-loop μ-loop
-unfolding firTaken
-returns-2 c = rw (lt-leb (c .before .before .before .before .args .i + 8) (length (c .before .before .before .before .args .x .now)) (omega arith))
-
-add-if3 : tie.Need-add-if3 Inv-loop μ-loop
-add-if3 c = omega arith
-
-returns-3 : tie.Need-returns-3 Inv-loop μ-loop
-unfolding firTaken
-returns-3 c = rw (le-leb (c .before .before .before .before .before .args .i + 8) (length (c .before .before .before .before .before .args .x .now)) (omega arith), lt-leb (length (c .before .before .before .before .before .args .c .now)) (c .before .before .before .before .before .args .i + 1) (omega arith))
+returns c = rw (sym (c .before .fir-inside .ensures) ∙ not-true (c .before .fir-inside .result) (c .if1 .taken))
 
 loop-holds : tie.Need-loop-holds Inv-loop μ-loop
 unfolding steps
-loop-holds c = (search needs, search needs, omega arith, omega arith, refl)
+loop-holds c =
+    let h = sym (c .before .fir-inside .ensures) ∙ not-false (c .before .fir-inside .result) (c .if1 .left) in
+    let a = c .before .before .before .before .args in
+    let l = inside (a .c .now) (a .x .now) (a .i) h in
+    (h, search needs, search needs, l .1, l .0, refl)
+
+mul-k : tie.Need-mul-k Inv-loop μ-loop
+mul-k c = search needs
+
+add-l : tie.Need-add-l Inv-loop μ-loop
+add-l c = search needs
 
 mul-sub-scaled : tie.Need-mul-sub-scaled Inv-loop μ-loop
 mul-sub-scaled c = search needs
@@ -47,26 +47,69 @@ shared-slice-read-sub-scaled : tie.Need-shared-slice-read-sub-scaled Inv-loop μ
 shared-slice-read-sub-scaled c = search needs
 
 sub-sub-scaled : tie.Need-sub-sub-scaled Inv-loop μ-loop
-sub-sub-scaled c = omega arith
+sub-sub-scaled c = search needs
 
 sub-scaled-requires : tie.Need-sub-scaled-requires Inv-loop μ-loop
-sub-scaled-requires c κs = omega arith
+sub-scaled-requires c κs = search needs
 
-add-k : tie.Need-add-k Inv-loop μ-loop
-add-k c = search needs
+mul-sub-scaled-2 : tie.Need-mul-sub-scaled-2 Inv-loop μ-loop
+mul-sub-scaled-2 c = search needs
+
+shared-slice-read-sub-scaled-2 : tie.Need-shared-slice-read-sub-scaled-2 Inv-loop μ-loop
+shared-slice-read-sub-scaled-2 c = search needs
+
+sub-sub-scaled-2 : tie.Need-sub-sub-scaled-2 Inv-loop μ-loop
+sub-sub-scaled-2 c = search needs
+
+sub-scaled-requires-2 : tie.Need-sub-scaled-requires-2 Inv-loop μ-loop
+sub-scaled-requires-2 c κs = search needs
+
+add-j : tie.Need-add-j Inv-loop μ-loop
+add-j c = search needs
 
 loop-less : tie.Need-loop-less Inv-loop μ-loop
 loop-less c = search needs
 
 loop-again : tie.Need-loop-again Inv-loop μ-loop
-unfolding steps
-loop-again c = (search needs, search needs, search needs, search needs, rw (add-one, c .sub-scaled .ensures, c .before .before .before .loop .inv .4))
+loop-again c =
+    let i = c .before .before .before .before .before .loop in (
+      i .inv .0,
+      search needs,
+      search needs,
+      search needs,
+      search needs,
+      rw (c .sub-scaled2 .ensures, c .before .before .sub-scaled .ensures, i .inv .5) (two-more _ _ (i .j)),
+    )
 
-returns-4 : tie.Need-returns-4 Inv-loop μ-loop
+mul-last : tie.Need-mul-last Inv-loop μ-loop
+mul-last c = search needs
+
+mul-sub-scaled-3 : tie.Need-mul-sub-scaled-3 Inv-loop μ-loop
+mul-sub-scaled-3 c = search needs
+
+shared-slice-read-sub-scaled-3 : tie.Need-shared-slice-read-sub-scaled-3 Inv-loop μ-loop
+shared-slice-read-sub-scaled-3 c = search needs
+
+sub-sub-scaled-3 : tie.Need-sub-sub-scaled-3 Inv-loop μ-loop
+sub-sub-scaled-3 c = search needs
+
+sub-scaled-requires-3 : tie.Need-sub-scaled-requires-3 Inv-loop μ-loop
+sub-scaled-requires-3 c κs = search needs
+
+returns-2 : tie.Need-returns-2 Inv-loop μ-loop
 unfolding firTaken
-returns-4 c =
-    let e : c .before .loop .k ≡ length (c .before .before .before .before .before .before .before .args .c .now) = omega arith in
-    rw (le-leb (c .before .before .before .before .before .before .before .args .i + 8) (length (c .before .before .before .before .before .before .before .args .x .now)) (omega arith), le-leb (length (c .before .before .before .before .before .before .before .args .c .now)) (c .before .before .before .before .before .before .before .args .i + 1) (omega arith), ← e) (c .before .loop .inv .4)
+returns-2 c =
+    let i = c .before .before .before .before .loop in
+    let terms = length (c .before .before .before .before .before .before .before .before .before .args .c .now) in
+    let e : i .j ≡ terms / 2 = omega arith in
+    rw (i .inv .0, c .sub-scaled3 .ensures, i .inv .5, e) (one-last _ _ terms (2 * (terms / 2)) (omega arith))
+
+returns-3 : tie.Need-returns-3 Inv-loop μ-loop
+unfolding firTaken
+returns-3 c =
+    let i = c .before .before .loop in
+    let e : 2 * i .j ≡ length (c .before .before .before .before .before .before .before .args .c .now) = omega arith in
+    rw (i .inv .0, i .inv .5, e)
 
 pub sub-fir-spec : {M : Type 1} → statement M
 sub-fir-spec =
@@ -74,17 +117,26 @@ sub-fir-spec =
     (tie.spec
     Inv-loop
     μ-loop
+    fir-inside-requires
     returns
-    sub-if2
-    returns-2
-    add-if3
-    returns-3
     loop-holds
+    mul-k
+    add-l
     mul-sub-scaled
     shared-slice-read-sub-scaled
     sub-sub-scaled
     sub-scaled-requires
-    add-k
+    mul-sub-scaled-2
+    shared-slice-read-sub-scaled-2
+    sub-sub-scaled-2
+    sub-scaled-requires-2
+    add-j
     loop-less
     loop-again
-    returns-4)
+    mul-last
+    mul-sub-scaled-3
+    shared-slice-read-sub-scaled-3
+    sub-sub-scaled-3
+    sub-scaled-requires-3
+    returns-2
+    returns-3)

@@ -1,72 +1,110 @@
--- `filter_fade` grows the outputs of the fade by one a turn.
-use Prim.Native.Nat.{_+_, _-_, _≤_}
-use mathlib.Core.Path.{_≡_, _∙_}
+-- `filter_fade` makes the outputs of the fade in blocks of eight, the last of which may begin inside the one before it.
+use Prim.Native.Nat.{_+_, _-_, _*_, _/_, _≤_}
+use mathlib.Core.Path.{_≡_, refl, sym, _∙_}
 use native.Mathlib.Omega.{arith}
-use lib.ListN.{length, length-set}
+use lib.ListN.{length}
+use lib.Seq.{length-take-le}
 use Rattle.decoder.specs.Fade.{faded, grown}
-use Rattle.decoder.proofs.Growing.{grown-none, grown-more}
-use Rattle.decoder.proofs.Reading.{inside-later, faded-next}
+use Rattle.decoder.specs.Blocks.{late}
+use Rattle.decoder.specs.declared.coefficients.Taps.{Taps}
+use Rattle.decoder.proofs.Growing.{grown-none}
+use Rattle.decoder.proofs.EightLanes.{Usable, usedNum, usedDen, nearest, fade-made}
 use borrow.Author.Needs.{needs}
 use Rattle.decoder.proofs.fade.filter_fade.Statement.{statement}
 use Rattle.decoder.proofs.fade.filter_fade.Tie as tie
 
 abbrev Inv-loop : tie.InvT-loop
-Inv-loop direction taps x y₀ history fade n₀ y n = (n ≤ fade) × (length y ≡ length y₀) × (y ≡ grown (faded direction history fade taps x) y₀ history n)
+Inv-loop direction x y₀ history fade l-den back num den b₀ b-end y b =
+    (b ≤ b-end) × (b-end ≡ fade / 8) × (length y ≡ length y₀)
+    × ((t : Taps) → Usable t history → num ≡ usedNum t → den ≡ usedDen t → back ≡ nearest t →
+    y ≡ grown (faded direction history fade t (late (history - 16) x)) y₀ history (8 * b))
 
 abbrev μ-loop : tie.MeasureT-loop
-μ-loop direction taps x y₀ history fade n₀ y n = fade - n
+μ-loop direction x y₀ history fade l-den back num den b₀ b-end y b = b-end - b
+
+-- the filter can be computed behind the history
+usable : (c : tie.Start Inv-loop μ-loop) → Usable (c .args .taps) (c .args .history)
+usable c = record { inside = c .pre .0; nums = search needs depth 9; dens = search needs depth 9 }
+
+sub-back : tie.Need-sub-back Inv-loop μ-loop
+sub-back c = search needs
+
+sub-c-num : tie.Need-sub-c-num Inv-loop μ-loop
+sub-c-num c = search needs
+
+array-share-prefix-c-num : tie.Need-array-share-prefix-c-num Inv-loop μ-loop
+array-share-prefix-c-num c = omega (arith, usable (c .before .before .before .before .before))
+
+slice-aggregate-num : tie.Need-slice-aggregate-num Inv-loop μ-loop
+slice-aggregate-num c = sym (length-take-le _ _ (omega (arith, usable (c .before .before .before .before .before .before))))
+
+add-c-den : tie.Need-add-c-den Inv-loop μ-loop
+add-c-den c = search needs
+
+array-share-prefix-c-den : tie.Need-array-share-prefix-c-den Inv-loop μ-loop
+array-share-prefix-c-den c = omega (arith, usable (c .before .before .before .before .before .before))
+
+slice-aggregate-den : tie.Need-slice-aggregate-den Inv-loop μ-loop
+slice-aggregate-den c = sym (length-take-le _ _ (omega (arith, usable (c .before .before .before .before .before .before .before))))
 
 loop-holds : tie.Need-loop-holds Inv-loop μ-loop
-loop-holds c = (search needs, search needs, grown-none _ _ _)
+loop-holds c = (search needs, search needs, search needs, λ t u n d l. grown-none _ _ _)
 
-add-at : tie.Need-add-at Inv-loop μ-loop
-add-at c = search needs
+mul-fade-block : tie.Need-mul-fade-block Inv-loop μ-loop
+mul-fade-block c = search needs
 
-compute-filter-requires : tie.Need-compute-filter-requires Inv-loop μ-loop
-compute-filter-requires c κs =
-    let s = c .before .before .before .before .before in
-    (inside-later (s .args .taps) (s .args .history) (s .args .history + c .before .before .loop .n) (omega arith) (s .pre .0), search needs, search needs)
+fade-block-requires : tie.Need-fade-block-requires Inv-loop μ-loop
+fade-block-requires c κs = search needs
 
-fade-factor-requires : tie.Need-fade-factor-requires Inv-loop μ-loop
-fade-factor-requires c κs = search needs
-
-mul-y : tie.Need-mul-y Inv-loop μ-loop
-mul-y c = search needs
-
-shared-slice-read-y : tie.Need-shared-slice-read-y Inv-loop μ-loop
-shared-slice-read-y c = search needs
-
-mul-y-2 : tie.Need-mul-y-2 Inv-loop μ-loop
-mul-y-2 c = search needs
-
-slice-write-y : tie.Need-slice-write-y Inv-loop μ-loop
-slice-write-y c = search needs
-
-add-n : tie.Need-add-n Inv-loop μ-loop
-add-n c = search needs
+add-b : tie.Need-add-b Inv-loop μ-loop
+add-b c = search needs
 
 loop-less : tie.Need-loop-less Inv-loop μ-loop
 loop-less c = search needs
 
 loop-again : tie.Need-loop-again Inv-loop μ-loop
 loop-again c =
-    let s = c .before .before .before .before .before .before .before .before in
-    let i = c .before .before .before .before .before .loop in (
+    let s = c .before .before .before .before .before .before .before .before .before .before .before .before .before in
+    let i = c .before .before .before .before .before .loop in
+    let e : 8 * (i .b + 1) ≡ 8 * i .b + 8 = omega arith in (
       search needs,
-      simp length-set (i .inv .1),
-      rw (i .inv .2)
-          (grown-more _ (s .args .y .now) (s .args .history) (i .n) _ (omega arith)
-          (rw (c .before .before .compute-filter .ensures, c .before .fade-factor .ensures, i .inv .2)
-          (faded-next _ (s .args .taps) _ (s .args .y .now) (s .args .history) (i .n) (omega arith) (s .pre .0) _ _))),
+      search needs,
+      search needs,
+      λ t u n d l.
+          c .before .before .fade-block .ensures
+          ∙ rw (n, d, l, i .inv .3 t u n d l, e)
+          (fade-made t (s .args .history) u (s .args .x .now) (8 * i .b) (omega arith) (s .args .direction) (s .args .fade) (s .args .y .now) (8 * i .b)
+          (omega arith) (omega arith) (omega arith)),
     )
 
+sub-fade-block : tie.Need-sub-fade-block Inv-loop μ-loop
+sub-fade-block c = search needs
+
+fade-block-requires-2 : tie.Need-fade-block-requires-2 Inv-loop μ-loop
+fade-block-requires-2 c κs = search needs
+
 same-length : tie.Need-same-length Inv-loop μ-loop
-same-length c = c .before .loop .inv .1
+same-length c = search needs
 
 returns : tie.Need-returns Inv-loop μ-loop
 returns c =
-    let e : c .before .loop .n ≡ c .before .before .before .before .args .fade = omega arith in
-    c .before .loop .inv .2 ∙ rw e
+    let s = c .before .before .before .before .before .before .before .before .before .before .before .before .before .before in
+    let i = c .before .before .before .before .before .before .loop in
+    let e : s .args .fade - 8 + 8 ≡ s .args .fade = omega arith in
+    c .before .before .fade-block2 .ensures
+    ∙ rw (i .inv .3 (s .args .taps) (usable s) refl refl refl)
+    (rw e at (fade-made (s .args .taps) (s .args .history) (usable s) (s .args .x .now) (s .args .fade - 8) (omega arith) (s .args .direction) (s .args .fade)
+    (s .args .y .now) (8 * i .b) (omega arith) (omega arith) (omega arith)))
+
+same-length-2 : tie.Need-same-length-2 Inv-loop μ-loop
+same-length-2 c = search needs
+
+returns-2 : tie.Need-returns-2 Inv-loop μ-loop
+returns-2 c =
+    let s = c .before .before .before .before .before .before .before .before .before .before in
+    let i = c .before .before .loop in
+    let e : 8 * i .b ≡ s .args .fade = omega arith in
+    i .inv .3 (s .args .taps) (usable s) refl refl refl ∙ rw e
 
 pub filter-fade-spec : {M : Type 1} → statement M
 filter-fade-spec =
@@ -74,16 +112,22 @@ filter-fade-spec =
     (tie.spec
     Inv-loop
     μ-loop
+    sub-back
+    sub-c-num
+    array-share-prefix-c-num
+    slice-aggregate-num
+    add-c-den
+    array-share-prefix-c-den
+    slice-aggregate-den
     loop-holds
-    add-at
-    compute-filter-requires
-    fade-factor-requires
-    mul-y
-    shared-slice-read-y
-    mul-y-2
-    slice-write-y
-    add-n
+    mul-fade-block
+    fade-block-requires
+    add-b
     loop-less
     loop-again
+    sub-fade-block
+    fade-block-requires-2
     same-length
-    returns)
+    returns
+    same-length-2
+    returns-2)

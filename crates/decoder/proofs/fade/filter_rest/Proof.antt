@@ -1,74 +1,124 @@
--- `filter_rest` grows the outputs by one a turn, to the end of the inputs.
-use Prim.Native.Nat.{_+_, _-_, _≤_}
-use mathlib.Core.Path.{_≡_, _∙_}
+-- `filter_rest` makes the unfaded outputs in blocks of eight, the last of which may begin inside the one before it.
+use Prim.Native.Nat.{_+_, _-_, _*_, _/_, _≤_}
+use mathlib.Core.Path.{_≡_, refl, sym, _∙_}
 use native.Mathlib.Omega.{arith}
-use lib.ListN.{length, length-set}
+use lib.ListN.{length}
+use lib.Seq.{length-take-le}
 use Rattle.decoder.specs.Fade.{steady, grown}
-use Rattle.decoder.proofs.Growing.{grown-none, grown-more}
-use Rattle.decoder.proofs.Reading.{inside-later, steady-next}
+use Rattle.decoder.specs.Blocks.{late}
+use Rattle.decoder.specs.declared.coefficients.Taps.{Taps}
+use Rattle.decoder.proofs.Growing.{grown-none}
+use Rattle.decoder.proofs.EightLanes.{Usable, usedNum, usedDen, nearest, rest-made}
 use borrow.Author.Needs.{needs}
 use Rattle.decoder.proofs.fade.filter_rest.Statement.{statement}
 use Rattle.decoder.proofs.fade.filter_rest.Tie as tie
 
 abbrev Inv-loop : tie.InvT-loop
-Inv-loop taps x y₀ from n₀ n-end y n = (n ≤ n-end) × (n-end ≡ length x - from) × (length y ≡ length y₀) × (y ≡ grown (steady taps x) y₀ from n)
+Inv-loop x y₀ history from l-den back num den len b₀ b-end y b =
+    (b ≤ b-end) × (b-end ≡ len / 8) × (len ≡ length x - (16 + from)) × (length y ≡ length y₀)
+    × ((t : Taps) → Usable t history → num ≡ usedNum t → den ≡ usedDen t → back ≡ nearest t →
+    y ≡ grown (steady t (late (history - 16) x)) y₀ (history + from) (8 * b))
 
 abbrev μ-loop : tie.MeasureT-loop
-μ-loop taps x y₀ from n₀ n-end y n = n-end - n
+μ-loop x y₀ history from l-den back num den len b₀ b-end y b = b-end - b
 
-sub-n-end : tie.Need-sub-n-end Inv-loop μ-loop
-sub-n-end c = search needs
+-- the filter can be computed behind the history
+usable : (c : tie.Start Inv-loop μ-loop) → Usable (c .args .taps) (c .args .history)
+usable c = record { inside = c .pre .0; nums = search needs depth 9; dens = search needs depth 9 }
+
+sub-back : tie.Need-sub-back Inv-loop μ-loop
+sub-back c = search needs
+
+sub-c-num : tie.Need-sub-c-num Inv-loop μ-loop
+sub-c-num c = search needs
+
+array-share-prefix-c-num : tie.Need-array-share-prefix-c-num Inv-loop μ-loop
+array-share-prefix-c-num c = omega (arith, usable (c .before .before .before .before .before))
+
+slice-aggregate-num : tie.Need-slice-aggregate-num Inv-loop μ-loop
+slice-aggregate-num c = sym (length-take-le _ _ (omega (arith, usable (c .before .before .before .before .before .before))))
+
+add-c-den : tie.Need-add-c-den Inv-loop μ-loop
+add-c-den c = search needs
+
+array-share-prefix-c-den : tie.Need-array-share-prefix-c-den Inv-loop μ-loop
+array-share-prefix-c-den c = omega (arith, usable (c .before .before .before .before .before .before))
+
+slice-aggregate-den : tie.Need-slice-aggregate-den Inv-loop μ-loop
+slice-aggregate-den c = sym (length-take-le _ _ (omega (arith, usable (c .before .before .before .before .before .before .before))))
+
+add-len : tie.Need-add-len Inv-loop μ-loop
+add-len c = search needs
+
+sub-len : tie.Need-sub-len Inv-loop μ-loop
+sub-len c = search needs
 
 loop-holds : tie.Need-loop-holds Inv-loop μ-loop
-loop-holds c = (search needs, search needs, search needs, grown-none _ _ _)
+loop-holds c = (search needs, search needs, search needs, search needs, λ t u n d l. grown-none _ _ _)
 
-add-at : tie.Need-add-at Inv-loop μ-loop
-add-at c = search needs
+mul-rest-block : tie.Need-mul-rest-block Inv-loop μ-loop
+mul-rest-block c = search needs
 
-compute-filter-requires : tie.Need-compute-filter-requires Inv-loop μ-loop
-compute-filter-requires c κs =
-    let s = c .before .before .before .before .before in
-    (inside-later (s .args .taps) (s .args .from) (s .args .from + c .before .before .loop .n) (omega arith) (s .pre .0), search needs, search needs)
+add-rest-block : tie.Need-add-rest-block Inv-loop μ-loop
+add-rest-block c = search needs
 
-mul-y : tie.Need-mul-y Inv-loop μ-loop
-mul-y c = search needs
+rest-block-requires : tie.Need-rest-block-requires Inv-loop μ-loop
+rest-block-requires c κs = search needs
 
-shared-slice-read-y : tie.Need-shared-slice-read-y Inv-loop μ-loop
-shared-slice-read-y c = search needs
-
-mul-y-2 : tie.Need-mul-y-2 Inv-loop μ-loop
-mul-y-2 c = search needs
-
-slice-write-y : tie.Need-slice-write-y Inv-loop μ-loop
-slice-write-y c = search needs
-
-add-n : tie.Need-add-n Inv-loop μ-loop
-add-n c = search needs
+add-b : tie.Need-add-b Inv-loop μ-loop
+add-b c = search needs
 
 loop-less : tie.Need-loop-less Inv-loop μ-loop
 loop-less c = search needs
 
 loop-again : tie.Need-loop-again Inv-loop μ-loop
 loop-again c =
-    let s = c .before .before .before .before .before .before .before in
-    let i = c .before .before .before .before .loop in (
+    let s = c .before .before .before .before .before .before .before .before .before .before .before .before .before in
+    let i = c .before .before .before .before .before .loop in
+    let e : 8 * (i .b + 1) ≡ 8 * i .b + 8 = omega arith in (
       search needs,
       search needs,
-      simp length-set (i .inv .2),
-      rw (i .inv .3)
-          (grown-more _ (s .args .y .now) (s .args .from) (i .n) _ (omega arith)
-          (rw (c .before .compute-filter .ensures, i .inv .3)
-          (steady-next _ (s .args .taps) _ (s .args .y .now) (s .args .from) (i .n) (omega arith) (s .pre .0)))),
+      search needs,
+      search needs,
+      λ t u n d l.
+          c .before .before .rest-block .ensures
+          ∙ rw (n, d, l, i .inv .4 t u n d l, e)
+          (rest-made t (s .args .history) u (s .args .x .now) (s .args .from + 8 * i .b) (omega arith) (s .args .y .now) (s .args .history + s .args .from) (8 * i .b)
+          (8 * i .b) (omega arith) (omega arith) (omega arith) (omega arith)),
     )
 
+add-rest-block-2 : tie.Need-add-rest-block-2 Inv-loop μ-loop
+add-rest-block-2 c = search needs
+
+sub-rest-block : tie.Need-sub-rest-block Inv-loop μ-loop
+sub-rest-block c = search needs
+
+rest-block-requires-2 : tie.Need-rest-block-requires-2 Inv-loop μ-loop
+rest-block-requires-2 c κs = search needs
+
 same-length : tie.Need-same-length Inv-loop μ-loop
-same-length c = c .before .loop .inv .2
+same-length c = search needs
 
 returns : tie.Need-returns Inv-loop μ-loop
 returns c =
-    let s = c .before .before .before .before in
-    let e : c .before .loop .n ≡ length (s .args .x .now) - s .args .from = omega arith in
-    c .before .loop .inv .3 ∙ rw e
+    let s = c .before .before .before .before .before .before .before .before .before .before .before .before .before .before in
+    let i = c .before .before .before .before .before .before .loop in
+    let len = length (s .args .x .now) - (16 + s .args .from) in
+    let e : len - 8 + 8 ≡ len = omega arith in
+    c .before .before .rest-block2 .ensures
+    ∙ rw (i .inv .4 (s .args .taps) (usable s) refl refl refl)
+    (rw e at (rest-made (s .args .taps) (s .args .history) (usable s) (s .args .x .now) (s .args .from + len - 8) (omega arith) (s .args .y .now)
+    (s .args .history + s .args .from) (len - 8) (8 * i .b) (omega arith) (omega arith) (omega arith) (omega arith)))
+
+same-length-2 : tie.Need-same-length-2 Inv-loop μ-loop
+same-length-2 c = search needs
+
+returns-2 : tie.Need-returns-2 Inv-loop μ-loop
+returns-2 c =
+    let s = c .before .before .before .before .before .before .before .before .before .before in
+    let i = c .before .before .loop in
+    let e : 8 * i .b ≡ length (s .args .x .now) - (16 + s .args .from) = omega arith in
+    i .inv .4 (s .args .taps) (usable s) refl refl refl ∙ rw e
 
 pub filter-rest-spec : {M : Type 1} → statement M
 filter-rest-spec =
@@ -76,16 +126,26 @@ filter-rest-spec =
     (tie.spec
     Inv-loop
     μ-loop
-    sub-n-end
+    sub-back
+    sub-c-num
+    array-share-prefix-c-num
+    slice-aggregate-num
+    add-c-den
+    array-share-prefix-c-den
+    slice-aggregate-den
+    add-len
+    sub-len
     loop-holds
-    add-at
-    compute-filter-requires
-    mul-y
-    shared-slice-read-y
-    mul-y-2
-    slice-write-y
-    add-n
+    mul-rest-block
+    add-rest-block
+    rest-block-requires
+    add-b
     loop-less
     loop-again
+    add-rest-block-2
+    sub-rest-block
+    rest-block-requires-2
     same-length
-    returns)
+    returns
+    same-length-2
+    returns-2)

@@ -7,9 +7,6 @@ use borrow.Author.Needs.{needs}
 use Rattle.decoder.proofs.ring.straighten.Statement.{statement}
 use Rattle.decoder.proofs.ring.straighten.Tie as tie
 
-slice-aggregate-put : tie.Need-slice-aggregate-put
-slice-aggregate-put c = search needs
-
 mul-put : tie.Need-mul-put
 mul-put c = search needs
 
@@ -25,52 +22,45 @@ part-put-end c = search needs
 put-requires : tie.Need-put-requires
 put-requires c κs = search needs
 
-slice-aggregate-put-2 : tie.Need-slice-aggregate-put-2
-slice-aggregate-put-2 c = search needs
-
 sub-put-2 : tie.Need-sub-put-2
 sub-put-2 c = search needs
 
-slice-aggregate-put-3 : tie.Need-slice-aggregate-put-3
-slice-aggregate-put-3 c = sym (length-take-le _ (c .before .before .before .before .before .before .before .before .args .ring .now) (omega arith))
+slice-aggregate-put : tie.Need-slice-aggregate-put
+slice-aggregate-put c = sym (length-take-le _ (c .before .before .before .before .before .before .before .before .before .before .args .ring .now) (omega arith))
 
 put-requires-2 : tie.Need-put-requires-2
 put-requires-2 c κs =
     omega (
       arith,
-      length-take-le (c .before .before .before .before .before .before .before .before .args .block-start-index)
-          (c .before .before .before .before .before .before .before .before .args .ring .now) (omega arith),
-      c .before .before .before .put .kept .0,
+      length-take-le (c .before .before .before .before .before .before .before .before .before .before .args .block-start-index) (c .before .before .before .before .before .before .before .before .before .before .args .ring .now) (omega arith),
+      c .before .before .before .before .put .kept .0,
     )
-
-slice-aggregate-put-4 : tie.Need-slice-aggregate-put-4
-slice-aggregate-put-4 c = search needs
 
 put-requires-3 : tie.Need-put-requires-3
 put-requires-3 c κs = search needs
 
+same-length : tie.Need-same-length
+same-length c = search needs
+
 returns : tie.Need-returns
 returns c =
-    let s = c .before .before .before .before .before .before .before .before .before .before .before .before .before in
+    let s = c .before .before .before .before .before .before .before .before .before .before .before .before .before .before .before .before .before in
     straightened _ _ _ _ (s .args .ring .now) (s .args .frame .now) (s .args .history) (s .args .block-start-index)
     (omega arith) (omega arith) (omega arith)
-    (c .before .before .before .before .before .before .before .before .put .ensures) (c .before .before .before .before .put2 .ensures)
-    (c .before .put3 .ensures)
+    (c .before .before .before .before .before .before .before .before .before .before .before .put .ensures) (c .before .before .before .before .before .before .put2 .ensures) (c .before .before .put3 .ensures)
 
 pub straighten-spec : {M : Type 1} → statement M
 straighten-spec =
     tie.close
     (tie.spec
-    slice-aggregate-put
     mul-put
     sub-put
     part-put-start
     part-put-end
     put-requires
-    slice-aggregate-put-2
     sub-put-2
-    slice-aggregate-put-3
+    slice-aggregate-put
     put-requires-2
-    slice-aggregate-put-4
     put-requires-3
+    same-length
     returns)

@@ -8,9 +8,6 @@ use Rattle.decoder.proofs.transition.activated.Tie as tie
 filter-fade-requires : tie.Need-filter-fade-requires
 filter-fade-requires c κs = search needs
 
-add-filter-rest : tie.Need-add-filter-rest
-add-filter-rest c = search needs
-
 filter-rest-requires : tie.Need-filter-rest-requires
 filter-rest-requires c κs = search needs
 
@@ -27,4 +24,4 @@ returns c =
 pub activated-spec : {M : Type 1} → statement M
 activated-spec =
     tie.close
-    (tie.spec filter-fade-requires add-filter-rest filter-rest-requires same-length returns)
+    (tie.spec filter-fade-requires filter-rest-requires same-length returns)

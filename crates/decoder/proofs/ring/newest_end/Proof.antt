@@ -1,0 +1,13 @@
+-- `newest_end` follows the definition's test.
+use borrow.Author.Tests.{eq-eqb, ne-eqb}
+use Rattle.decoder.proofs.ring.newest_end.Statement.{statement}
+use Rattle.decoder.proofs.ring.newest_end.Tie as tie
+
+returns : tie.Need-returns
+returns c = rw (eq-eqb _ _ (c .if1 .taken))
+
+returns-2 : tie.Need-returns-2
+returns-2 c = rw (ne-eqb _ _ (c .if1 .left))
+
+pub newest-end-spec : {M : Type 1} → statement M
+newest-end-spec = tie.close (tie.spec returns returns-2)
