@@ -7,12 +7,11 @@ use crate::block::write_8;
 use crate::coefficients::Taps;
 use lanes::Lanes;
 ghost use mathlib.Core.Path.{_≡_};
-ghost use Prim.Native.Nat.{_+_, _-_, _≤_, _<_};
+ghost use Prim.Native.Nat.{_+_, _-_, _*_, _≤_, _<_, min};
 ghost use lib.ListN.{length};
 ghost use Rattle.decoder.specs.Required.{Inside};
 ghost use Rattle.decoder.specs.Fade.{factor, faded, steady, grown};
-ghost use Rattle.decoder.specs.Blocks.{listed, sums, less, weighed, late};
-ghost use Rattle.decoder.specs.Ring.{stored};
+ghost use Rattle.decoder.specs.Blocks.{weighed, late};
 
 // A filter fades in by n / fade, and out by one less that.
 pub enum Direction {
@@ -51,33 +50,24 @@ fn weigh_8(direction: Direction, n: usize, fade: usize, s: Lanes) -> Lanes
     }
 }
 
+// Where block b of so many outputs begins. The last block ends with them.
+fn block_start(b: usize, len: usize) -> usize
+    requires { ⌜ (8 * b ≤ len) × (8 ≤ len) ⌝ }
+    ensures { λ r. ⌜ r ≡ min (8 * b) (len - 8) ⌝ }
+{
+    let n = 8 * b;
+    let last = len - 8;
+    if n < last {
+        return n;
+    }
+    last
+}
+
 // In what follows x is the inputs of the frame behind 16 samples of their past, and y the outputs
 // behind the whole of theirs. Outputs are counted from the frame's start; `back` is how far before an
 // output the newest one lies that it is made of.
 
-// Eight outputs of the fade, from n on: x less the faded filter.
-fn fade_block(
-    direction: Direction,
-    num: &[f32],
-    den: &[f32],
-    back: usize,
-    x: &[f32],
-    y: &mut [f32],
-    history: usize,
-    fade: usize,
-    n: usize,
-)
-    requires { ⌜ (n + 8 ≤ fade) × (fade < 65536) × (16 + fade ≤ length (now x)) × (history + fade ≤ length (now y)) × (back ≤ history) ⌝ }
-    ensures { λ _. ⌜ now (y .exit) ≡ stored (now (y .entry)) (history + n) (listed (less (now (x .entry)) (16 + n) (weighed direction fade n (sums (now (num .entry)) (now (den .entry)) (now (x .entry)) (16 + n) (now (y .entry)) (history + n - back))))) ⌝ }
-{
-    let i = 16 + n;
-    let at = history + n;
-    let filt_out = filter_8(num, den, x, i, y, at - back);
-    let out = less_8(x, i, weigh_8(direction, n, fade, filt_out));
-    write_8(y, at, out);
-}
-
-// Outputs over the fade, behind a history.
+// Outputs over the fade, behind a history: x less the faded filter.
 pub(crate) fn filter_fade(
     direction: Direction,
     taps: Taps,
@@ -95,35 +85,17 @@ pub(crate) fn filter_fade(
     let c_den = taps.c_den;
     let num = &c_num[..l_den - 1];
     let den = &c_den[..l_den + 1];
-    for b in 0..fade / 8 {
-        fade_block(direction, num, den, back, x, y, history, fade, 8 * b);
-    }
-    if fade % 8 > 0 {
-        fade_block(direction, num, den, back, x, y, history, fade, fade - 8);
+    for b in 0..(fade + 7) / 8 {
+        let n = block_start(b, fade);
+        let i = 16 + n;
+        let at = history + n;
+        let filt_out = filter_8(num, den, x, i, y, at - back);
+        let out = less_8(x, i, weigh_8(direction, n, fade, filt_out));
+        write_8(y, at, out);
     }
 }
 
-// Eight unfaded outputs from n on: x less the filter.
-fn rest_block(
-    num: &[f32],
-    den: &[f32],
-    back: usize,
-    x: &[f32],
-    y: &mut [f32],
-    history: usize,
-    n: usize,
-)
-    requires { ⌜ (16 + n + 8 ≤ length (now x)) × (history + n + 8 ≤ length (now y)) × (back ≤ history) ⌝ }
-    ensures { λ _. ⌜ now (y .exit) ≡ stored (now (y .entry)) (history + n) (listed (less (now (x .entry)) (16 + n) (sums (now (num .entry)) (now (den .entry)) (now (x .entry)) (16 + n) (now (y .entry)) (history + n - back)))) ⌝ }
-{
-    let i = 16 + n;
-    let at = history + n;
-    let filt_out = filter_8(num, den, x, i, y, at - back);
-    let out = less_8(x, i, filt_out);
-    write_8(y, at, out);
-}
-
-// Outputs from one on, to the end of the frame.
+// Outputs from one on, to the end of the frame: x less the filter.
 pub(crate) fn filter_rest(taps: Taps, x: &[f32], y: &mut [f32], history: usize, from: usize)
     requires { ⌜ Inside taps history × (16 + from + 8 ≤ length (now x)) × (history + length (now x) ≤ 16 + length (now y)) ⌝ }
     ensures { λ _. ⌜ now (y .exit) ≡ grown (steady taps (late (history - 16) (now (x .entry)))) (now (y .entry)) (history + from) (length (now (x .entry)) - (16 + from)) ⌝ }
@@ -135,10 +107,12 @@ pub(crate) fn filter_rest(taps: Taps, x: &[f32], y: &mut [f32], history: usize, 
     let num = &c_num[..l_den - 1];
     let den = &c_den[..l_den + 1];
     let len = x.len() - (16 + from);
-    for b in 0..len / 8 {
-        rest_block(num, den, back, x, y, history, from + 8 * b);
-    }
-    if len % 8 > 0 {
-        rest_block(num, den, back, x, y, history, from + len - 8);
+    for b in 0..(len + 7) / 8 {
+        let n = from + block_start(b, len);
+        let i = 16 + n;
+        let at = history + n;
+        let filt_out = filter_8(num, den, x, i, y, at - back);
+        let out = less_8(x, i, filt_out);
+        write_8(y, at, out);
     }
 }

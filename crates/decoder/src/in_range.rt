@@ -12,14 +12,13 @@ fn in_range(x: f32) -> bool
     false
 }
 
-// Whether every sample is.
+// Whether every sample is. The loop looks at all of them, which a compiler can do many at a time.
 pub(crate) fn all_in_range(s: &[f32]) -> bool
     ensures { λ r. ⌜ r ≡ allInRange (now (s .entry)) ⌝ }
 {
+    let mut all = true;
     for i in 0..s.len() {
-        if !in_range(s[i]) {
-            return false;
-        }
+        all = all & in_range(s[i]);
     }
-    true
+    all
 }

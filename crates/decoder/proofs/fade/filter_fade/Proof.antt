@@ -1,5 +1,5 @@
 -- `filter_fade` makes the outputs of the fade in blocks of eight, the last of which may begin inside the one before it.
-use Prim.Native.Nat.{_+_, _-_, _*_, _/_, _≤_}
+use Prim.Native.Nat.{_+_, _-_, _*_, _/_, _≤_, min}
 use mathlib.Core.Path.{_≡_, refl, sym, _∙_}
 use native.Mathlib.Omega.{arith}
 use lib.ListN.{length}
@@ -15,9 +15,9 @@ use Rattle.decoder.proofs.fade.filter_fade.Tie as tie
 
 abbrev Inv-loop : tie.InvT-loop
 Inv-loop direction x y₀ history fade l-den back num den b₀ b-end y b =
-    (b ≤ b-end) × (b-end ≡ fade / 8) × (length y ≡ length y₀)
+    (b ≤ b-end) × (b-end ≡ (fade + 7) / 8) × (length y ≡ length y₀)
     × ((t : Taps) → Usable t history → num ≡ usedNum t → den ≡ usedDen t → back ≡ nearest t →
-    y ≡ grown (faded direction history fade t (late (history - 16) x)) y₀ history (8 * b))
+    y ≡ grown (faded direction history fade t (late (history - 16) x)) y₀ history (min (8 * b) fade))
 
 abbrev μ-loop : tie.MeasureT-loop
 μ-loop direction x y₀ history fade l-den back num den b₀ b-end y b = b-end - b
@@ -47,14 +47,37 @@ array-share-prefix-c-den c = omega (arith, usable (c .before .before .before .be
 slice-aggregate-den : tie.Need-slice-aggregate-den Inv-loop μ-loop
 slice-aggregate-den c = sym (length-take-le _ _ (omega (arith, usable (c .before .before .before .before .before .before .before))))
 
+add-b-end : tie.Need-add-b-end Inv-loop μ-loop
+add-b-end c = search needs
+
 loop-holds : tie.Need-loop-holds Inv-loop μ-loop
-loop-holds c = (search needs, search needs, search needs, λ t u n d l. grown-none _ _ _)
+loop-holds c =
+    let none : min (8 * 0) (c .before .before .before .before .before .before .before .args .fade) ≡ 0 = omega arith in
+    (search needs, search needs, search needs, λ t u n d l. rw none (grown-none _ _ _))
 
-mul-fade-block : tie.Need-mul-fade-block Inv-loop μ-loop
-mul-fade-block c = search needs
+block-start-requires : tie.Need-block-start-requires Inv-loop μ-loop
+block-start-requires c κs = search needs
 
-fade-block-requires : tie.Need-fade-block-requires Inv-loop μ-loop
-fade-block-requires c κs = search needs
+add-i : tie.Need-add-i Inv-loop μ-loop
+add-i c = search needs
+
+add-at : tie.Need-add-at Inv-loop μ-loop
+add-at c = search needs
+
+sub-filter-8 : tie.Need-sub-filter-8 Inv-loop μ-loop
+sub-filter-8 c = search needs
+
+filter-8-requires : tie.Need-filter-8-requires Inv-loop μ-loop
+filter-8-requires c κs = search needs
+
+weigh-8-requires : tie.Need-weigh-8-requires Inv-loop μ-loop
+weigh-8-requires c κs = search needs
+
+less-8-requires : tie.Need-less-8-requires Inv-loop μ-loop
+less-8-requires c κs = search needs
+
+write-8-requires : tie.Need-write-8-requires Inv-loop μ-loop
+write-8-requires c κs = omega (arith, c .before .before .before .before .before .block-start .ensures, c .before .before .before .before .before .before .before .loop .inv .2, c .before .before .before .before .before .before .before .before .before .before .before .before .before .before .before .pre)
 
 add-b : tie.Need-add-b Inv-loop μ-loop
 add-b c = search needs
@@ -64,46 +87,28 @@ loop-less c = search needs
 
 loop-again : tie.Need-loop-again Inv-loop μ-loop
 loop-again c =
-    let s = c .before .before .before .before .before .before .before .before .before .before .before .before .before in
-    let i = c .before .before .before .before .before .loop in
-    let e : 8 * (i .b + 1) ≡ 8 * i .b + 8 = omega arith in (
+    let s = c .before .before .before .before .before .before .before .before .before .before .before .before .before .before .before .before .before .before in
+    let i = c .before .before .before .before .before .before .before .before .before .before .loop in
+    let m = c .before .before .before .before .before .before .before .before .block-start .result in
+    let e : min (8 * (i .b + 1)) (s .args .fade) ≡ m + 8 = omega (arith, c .before .before .before .before .before .before .before .before .block-start .ensures) in (
       search needs,
       search needs,
       search needs,
       λ t u n d l.
-          c .before .before .fade-block .ensures
-          ∙ rw (n, d, l, i .inv .3 t u n d l, e)
-          (fade-made t (s .args .history) u (s .args .x .now) (8 * i .b) (omega arith) (s .args .direction) (s .args .fade) (s .args .y .now) (8 * i .b)
-          (omega arith) (omega arith) (omega arith)),
+          c .before .before .write-8 .ensures
+          ∙ rw (c .before .before .before .before .less-8 .ensures, c .before .before .before .before .before .weigh-8 .ensures, c .before .before .before .before .before .before .filter-8 .ensures, n, d, l, i .inv .3 t u n d l, e)
+          (fade-made t (s .args .history) u (s .args .x .now) m (omega arith) (s .args .direction) (s .args .fade) (s .args .y .now)
+          (min (8 * i .b) (s .args .fade)) (omega arith) (omega arith) (omega arith)),
     )
-
-sub-fade-block : tie.Need-sub-fade-block Inv-loop μ-loop
-sub-fade-block c = search needs
-
-fade-block-requires-2 : tie.Need-fade-block-requires-2 Inv-loop μ-loop
-fade-block-requires-2 c κs = search needs
 
 same-length : tie.Need-same-length Inv-loop μ-loop
 same-length c = search needs
 
 returns : tie.Need-returns Inv-loop μ-loop
 returns c =
-    let s = c .before .before .before .before .before .before .before .before .before .before .before .before .before .before in
-    let i = c .before .before .before .before .before .before .loop in
-    let e : s .args .fade - 8 + 8 ≡ s .args .fade = omega arith in
-    c .before .before .fade-block2 .ensures
-    ∙ rw (i .inv .3 (s .args .taps) (usable s) refl refl refl)
-    (rw e at (fade-made (s .args .taps) (s .args .history) (usable s) (s .args .x .now) (s .args .fade - 8) (omega arith) (s .args .direction) (s .args .fade)
-    (s .args .y .now) (8 * i .b) (omega arith) (omega arith) (omega arith)))
-
-same-length-2 : tie.Need-same-length-2 Inv-loop μ-loop
-same-length-2 c = search needs
-
-returns-2 : tie.Need-returns-2 Inv-loop μ-loop
-returns-2 c =
-    let s = c .before .before .before .before .before .before .before .before .before .before in
-    let i = c .before .before .loop in
-    let e : 8 * i .b ≡ s .args .fade = omega arith in
+    let s = c .before .before .before .before .before .before .before .before .before in
+    let i = c .before .loop in
+    let e : min (8 * i .b) (s .args .fade) ≡ s .args .fade = omega arith in
     i .inv .3 (s .args .taps) (usable s) refl refl refl ∙ rw e
 
 pub filter-fade-spec : {M : Type 1} → statement M
@@ -119,15 +124,18 @@ filter-fade-spec =
     add-c-den
     array-share-prefix-c-den
     slice-aggregate-den
+    add-b-end
     loop-holds
-    mul-fade-block
-    fade-block-requires
+    block-start-requires
+    add-i
+    add-at
+    sub-filter-8
+    filter-8-requires
+    weigh-8-requires
+    less-8-requires
+    write-8-requires
     add-b
     loop-less
     loop-again
-    sub-fade-block
-    fade-block-requires-2
     same-length
-    returns
-    same-length-2
-    returns-2)
+    returns)

@@ -1,5 +1,5 @@
 -- `filter_rest` makes the unfaded outputs in blocks of eight, the last of which may begin inside the one before it.
-use Prim.Native.Nat.{_+_, _-_, _*_, _/_, _≤_}
+use Prim.Native.Nat.{_+_, _-_, _*_, _/_, _≤_, min}
 use mathlib.Core.Path.{_≡_, refl, sym, _∙_}
 use native.Mathlib.Omega.{arith}
 use lib.ListN.{length}
@@ -15,9 +15,9 @@ use Rattle.decoder.proofs.fade.filter_rest.Tie as tie
 
 abbrev Inv-loop : tie.InvT-loop
 Inv-loop x y₀ history from l-den back num den len b₀ b-end y b =
-    (b ≤ b-end) × (b-end ≡ len / 8) × (len ≡ length x - (16 + from)) × (length y ≡ length y₀)
+    (b ≤ b-end) × (b-end ≡ (len + 7) / 8) × (len ≡ length x - (16 + from)) × (length y ≡ length y₀)
     × ((t : Taps) → Usable t history → num ≡ usedNum t → den ≡ usedDen t → back ≡ nearest t →
-    y ≡ grown (steady t (late (history - 16) x)) y₀ (history + from) (8 * b))
+    y ≡ grown (steady t (late (history - 16) x)) y₀ (history + from) (min (8 * b) len))
 
 abbrev μ-loop : tie.MeasureT-loop
 μ-loop x y₀ history from l-den back num den len b₀ b-end y b = b-end - b
@@ -53,17 +53,38 @@ add-len c = search needs
 sub-len : tie.Need-sub-len Inv-loop μ-loop
 sub-len c = search needs
 
+add-b-end : tie.Need-add-b-end Inv-loop μ-loop
+add-b-end c = search needs
+
 loop-holds : tie.Need-loop-holds Inv-loop μ-loop
-loop-holds c = (search needs, search needs, search needs, search needs, λ t u n d l. grown-none _ _ _)
+loop-holds c =
+    let s = c .before .before .before .before .before .before .before in
+    let none : min (8 * 0) (length (s .args .x .now) - (16 + s .args .from)) ≡ 0 = omega arith in
+    (search needs, search needs, search needs, search needs, λ t u n d l. rw none (grown-none _ _ _))
 
-mul-rest-block : tie.Need-mul-rest-block Inv-loop μ-loop
-mul-rest-block c = search needs
+block-start-requires : tie.Need-block-start-requires Inv-loop μ-loop
+block-start-requires c κs = search needs
 
-add-rest-block : tie.Need-add-rest-block Inv-loop μ-loop
-add-rest-block c = search needs
+add-n : tie.Need-add-n Inv-loop μ-loop
+add-n c = search needs
 
-rest-block-requires : tie.Need-rest-block-requires Inv-loop μ-loop
-rest-block-requires c κs = search needs
+add-i : tie.Need-add-i Inv-loop μ-loop
+add-i c = search needs
+
+add-at : tie.Need-add-at Inv-loop μ-loop
+add-at c = search needs
+
+sub-filter-8 : tie.Need-sub-filter-8 Inv-loop μ-loop
+sub-filter-8 c = search needs
+
+filter-8-requires : tie.Need-filter-8-requires Inv-loop μ-loop
+filter-8-requires c κs = search needs
+
+less-8-requires : tie.Need-less-8-requires Inv-loop μ-loop
+less-8-requires c κs = search needs
+
+write-8-requires : tie.Need-write-8-requires Inv-loop μ-loop
+write-8-requires c κs = search needs
 
 add-b : tie.Need-add-b Inv-loop μ-loop
 add-b c = search needs
@@ -73,51 +94,30 @@ loop-less c = search needs
 
 loop-again : tie.Need-loop-again Inv-loop μ-loop
 loop-again c =
-    let s = c .before .before .before .before .before .before .before .before .before .before .before .before .before in
-    let i = c .before .before .before .before .before .loop in
-    let e : 8 * (i .b + 1) ≡ 8 * i .b + 8 = omega arith in (
+    let s = c .before .before .before .before .before .before .before .before .before .before .before .before .before .before .before .before .before in
+    let i = c .before .before .before .before .before .before .before .before .before .loop in
+    let m = c .before .before .before .before .before .before .before .block-start .result in
+    let len = length (s .args .x .now) - (16 + s .args .from) in
+    let e : min (8 * (i .b + 1)) len ≡ m + 8 = omega (arith, c .before .before .before .before .before .before .before .block-start .ensures) in (
       search needs,
       search needs,
       search needs,
       search needs,
       λ t u n d l.
-          c .before .before .rest-block .ensures
-          ∙ rw (n, d, l, i .inv .4 t u n d l, e)
-          (rest-made t (s .args .history) u (s .args .x .now) (s .args .from + 8 * i .b) (omega arith) (s .args .y .now) (s .args .history + s .args .from) (8 * i .b)
-          (8 * i .b) (omega arith) (omega arith) (omega arith) (omega arith)),
+          c .before .before .write-8 .ensures
+          ∙ rw (c .before .before .before .before .less-8 .ensures, c .before .before .before .before .before .filter-8 .ensures, n, d, l, i .inv .4 t u n d l, e)
+          (rest-made t (s .args .history) u (s .args .x .now) (s .args .from + m) (omega arith) (s .args .y .now) (s .args .history + s .args .from) m
+          (min (8 * i .b) len) (omega arith) (omega arith) (omega arith) (omega arith)),
     )
-
-add-rest-block-2 : tie.Need-add-rest-block-2 Inv-loop μ-loop
-add-rest-block-2 c = search needs
-
-sub-rest-block : tie.Need-sub-rest-block Inv-loop μ-loop
-sub-rest-block c = search needs
-
-rest-block-requires-2 : tie.Need-rest-block-requires-2 Inv-loop μ-loop
-rest-block-requires-2 c κs = search needs
 
 same-length : tie.Need-same-length Inv-loop μ-loop
 same-length c = search needs
 
 returns : tie.Need-returns Inv-loop μ-loop
 returns c =
-    let s = c .before .before .before .before .before .before .before .before .before .before .before .before .before .before in
-    let i = c .before .before .before .before .before .before .loop in
-    let len = length (s .args .x .now) - (16 + s .args .from) in
-    let e : len - 8 + 8 ≡ len = omega arith in
-    c .before .before .rest-block2 .ensures
-    ∙ rw (i .inv .4 (s .args .taps) (usable s) refl refl refl)
-    (rw e at (rest-made (s .args .taps) (s .args .history) (usable s) (s .args .x .now) (s .args .from + len - 8) (omega arith) (s .args .y .now)
-    (s .args .history + s .args .from) (len - 8) (8 * i .b) (omega arith) (omega arith) (omega arith) (omega arith)))
-
-same-length-2 : tie.Need-same-length-2 Inv-loop μ-loop
-same-length-2 c = search needs
-
-returns-2 : tie.Need-returns-2 Inv-loop μ-loop
-returns-2 c =
-    let s = c .before .before .before .before .before .before .before .before .before .before in
-    let i = c .before .before .loop in
-    let e : 8 * i .b ≡ length (s .args .x .now) - (16 + s .args .from) = omega arith in
+    let s = c .before .before .before .before .before .before .before .before .before in
+    let i = c .before .loop in
+    let e : min (8 * i .b) (length (s .args .x .now) - (16 + s .args .from)) ≡ length (s .args .x .now) - (16 + s .args .from) = omega arith in
     i .inv .4 (s .args .taps) (usable s) refl refl refl ∙ rw e
 
 pub filter-rest-spec : {M : Type 1} → statement M
@@ -135,17 +135,18 @@ filter-rest-spec =
     slice-aggregate-den
     add-len
     sub-len
+    add-b-end
     loop-holds
-    mul-rest-block
-    add-rest-block
-    rest-block-requires
+    block-start-requires
+    add-n
+    add-i
+    add-at
+    sub-filter-8
+    filter-8-requires
+    less-8-requires
+    write-8-requires
     add-b
     loop-less
     loop-again
-    add-rest-block-2
-    sub-rest-block
-    rest-block-requires-2
     same-length
-    returns
-    same-length-2
-    returns-2)
+    returns)

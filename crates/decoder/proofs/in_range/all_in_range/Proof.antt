@@ -1,7 +1,7 @@
--- `all_in_range` passes over the samples in range and stops at the first that is not.
+-- `all_in_range` holds the test of the samples so far beside that of the rest.
 use Prim.Native.Nat.{ℕ, _≤_, _<_, _+_, _-_}
-use mathlib.Core.Path.{_≡_, sym, _∙_}
-use mathlib.Core.Bool.{_&&_}
+use mathlib.Core.Path.{_≡_, refl, sym, _∙_}
+use mathlib.Core.Bool.{Bool, true, false, _&&_}
 use mathlib.Core.List.{List}
 use native.Mathlib.Numerals.{add-one}
 use native.Mathlib.Omega.{arith}
@@ -10,20 +10,26 @@ use lib.Seq.{drop-cons, drop-length}
 use lib.Ieee.{Float, nan}
 use Rattle.floats.specs.Single.{at}
 use Rattle.decoder.specs.InRange.{inRange, allInRange}
-use Rattle.decoder.proofs.Tested.{failed, passed}
 use borrow.Author.Needs.{needs}
 use Rattle.decoder.proofs.in_range.all_in_range.Statement.{statement}
 use Rattle.decoder.proofs.in_range.all_in_range.Tie as tie
 
--- what is left from sample i on, by whether that sample is in range
-rest : (s : List Float) (i : ℕ) → i < length s → allInRange (drop i s) ≡ (inRange (at s i) && allInRange (drop (i + 1) s))
-rest s i h = rw (drop-cons s i nan, add-one)
+-- one sample more is looked at
+more : (all : Bool) (s : List Float) (i : ℕ) → i < length s →
+    (all && allInRange (drop i s)) ≡ ((all && inRange (at s i)) && allInRange (drop (i + 1) s))
+more false s i h = refl
+more true s i h = rw (drop-cons s i nan, add-one)
+
+-- none is left
+none : (all : Bool) (s : List Float) → (all && allInRange (drop (length s) s)) ≡ all
+none false s = refl
+none true s = rw drop-length
 
 abbrev Inv-loop : tie.InvT-loop
-Inv-loop s i₀ i-end i = (i ≤ i-end) × (i-end ≡ length s) × (allInRange s ≡ allInRange (drop i s))
+Inv-loop s all₀ i₀ i-end all i = (i ≤ i-end) × (i-end ≡ length s) × (allInRange s ≡ (all && allInRange (drop i s)))
 
 abbrev μ-loop : tie.MeasureT-loop
-μ-loop s i₀ i-end i = i-end - i
+μ-loop s all₀ i₀ i-end all i = i-end - i
 
 loop-holds : tie.Need-loop-holds Inv-loop μ-loop
 loop-holds c = search needs
@@ -37,14 +43,6 @@ shared-slice-read-in-range c = search needs
 in-range-requires : tie.Need-in-range-requires Inv-loop μ-loop
 in-range-requires c κs = search needs
 
-returns : tie.Need-returns Inv-loop μ-loop
-returns c =
-    rw (
-      c .before .before .before .before .loop .inv .2,
-      rest (c .before .before .before .before .before .before .args .s .now) (c .before .before .before .before .loop .i) (search needs),
-      failed (c .before .in-range .ensures) (c .if1 .taken),
-    )
-
 add-i : tie.Need-add-i Inv-loop μ-loop
 add-i c = search needs
 
@@ -55,17 +53,13 @@ loop-again : tie.Need-loop-again Inv-loop μ-loop
 loop-again c = (
   search needs,
   search needs,
-  c .before .before .before .before .loop .inv .2
-      ∙ rw (
-        rest (c .before .before .before .before .before .before .args .s .now) (c .before .before .before .before .loop .i) (search needs),
-        passed (c .before .in-range .ensures) (c .if1 .left),
-      ),
+  c .before .before .before .loop .inv .2 ∙ more (c .before .before .before .loop .all) (c .before .before .before .before .before .args .s .now) (c .before .before .before .loop .i) (search needs) ∙ (rw (c .in-range .ensures)),
 )
 
-returns-2 : tie.Need-returns-2 Inv-loop μ-loop
-returns-2 c =
+returns : tie.Need-returns Inv-loop μ-loop
+returns c =
     let e : c .before .loop .i ≡ length (c .before .before .before .args .s .now) = omega arith in
-    sym (c .before .loop .inv .2 ∙ rw (e, drop-length))
+    sym (rw e at (c .before .loop .inv .2) ∙ none (c .before .loop .all) (c .before .before .before .args .s .now))
 
 pub all-in-range-spec : {M : Type 1} → statement M
 all-in-range-spec =
@@ -77,8 +71,7 @@ all-in-range-spec =
     mul-in-range
     shared-slice-read-in-range
     in-range-requires
-    returns
     add-i
     loop-less
     loop-again
-    returns-2)
+    returns)
