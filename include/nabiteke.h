@@ -31,7 +31,7 @@
  *
  * Stack
  *
- *   A decoder frame needs at most 24376 bytes of stack, an encoder frame 16864, every other call 600, arguments
+ *   A decoder frame needs at most 10960 bytes of stack, an encoder frame 11712, every other call 600, arguments
  *   included. Measured at every rate, duration and transition: the lowest byte that a call changed of a painted stack.
  */
 #ifndef NABITEKE_H
