@@ -50,7 +50,7 @@ fn print_place(fd: i32, place: Place) {
 }
 
 impl Tally {
-    pub fn new() -> Self {
+    pub(crate) fn new() -> Self {
         Tally {
             more: true,
             place: Place::Nowhere,
@@ -61,7 +61,7 @@ impl Tally {
     }
 
     // The tally, at a place from now on.
-    pub fn at(self, place: Place) -> Self {
+    pub(crate) fn at(self, place: Place) -> Self {
         Tally {
             more: self.more,
             place,
@@ -92,7 +92,7 @@ impl Tally {
     }
 
     // Compares a vector of one whole number.
-    pub fn number(self, name: &[u8], expected: u64, got: u64) -> Self {
+    pub(crate) fn number(self, name: &[u8], expected: u64, got: u64) -> Self {
         if expected == got {
             return self.vector(name, 1, 0);
         }
@@ -117,7 +117,7 @@ impl Tally {
     }
 
     // Compares a vector of floats, as far as there are both.
-    pub fn floats<'a>(
+    pub(crate) fn floats<'a>(
         self,
         name: &[u8],
         expected: &'a [f32],
@@ -134,7 +134,7 @@ impl Tally {
     }
 
     // The counts, on a line. Standard error is told if the line cannot be written.
-    pub fn print_counts(self) {
+    pub(crate) fn print_counts(self) {
         print_count(STDOUT_FILENO, b"vectors ", self.vectors);
         print_count(STDOUT_FILENO, b" values ", self.values);
         print_count(STDOUT_FILENO, b" out ", self.out);
@@ -144,13 +144,13 @@ impl Tally {
     }
 
     // The tally at the end of a file.
-    pub fn end(mut self) -> Self {
+    pub(crate) fn end(mut self) -> Self {
         self.more = false;
         self
     }
 
     // The same, and standard error is told why the rest of the file is not compared.
-    pub fn stop(self, why: &[u8]) -> Self {
+    pub(crate) fn stop(self, why: &[u8]) -> Self {
         let place = self.place;
         io::write_all(STDERR_FILENO, b"after ");
         print_place(STDERR_FILENO, place);
