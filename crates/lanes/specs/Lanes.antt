@@ -1,7 +1,7 @@
 -- Eight sums side by side: sum j of a step takes the sample j places behind the first sum's.
 use Prim.Native.Nat.{ℕ, zero, suc, _+_, _-_}
 use mathlib.Core.Bool.{Bool, cond, _&&_}
-use mathlib.Core.List.{List}
+use mathlib.Core.List.{List, [], _∷_}
 use mathlib.Core.Path.{_≡_}
 use lib.Dec.{leb}
 use lib.Ieee.{Float}
@@ -12,6 +12,10 @@ use Rattle.lanes.specs.declared.Three.{Three}
 
 abbrev pub all : Float → Lanes
 all v = record { s0 = v; s1 = v; s2 = v; s3 = v; s4 = v; s5 = v; s6 = v; s7 = v }
+
+-- the eight in a row
+unfoldable pub listed : Lanes → List Float
+listed s = s .s0 ∷ s .s1 ∷ s .s2 ∷ s .s3 ∷ s .s4 ∷ s .s5 ∷ s .s6 ∷ s .s7 ∷ []
 
 -- c times the samples from i on, added
 abbrev pub plus : Lanes → Float → List Float → ℕ → Lanes

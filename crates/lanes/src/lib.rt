@@ -3,7 +3,8 @@
 ghost use mathlib.Core.Path.{_≡_};
 ghost use Prim.Native.Nat.{_+_, _≤_};
 ghost use lib.ListN.{length};
-ghost use Rattle.lanes.specs.Lanes.{all, plus, minus, firInside, firAdded, firTaken, holds, Summed, threeCorrelated};
+ghost use Rattle.slices.specs.Slices.{stored, placed};
+ghost use Rattle.lanes.specs.Lanes.{all, listed, plus, minus, firInside, firAdded, firTaken, holds, Summed, threeCorrelated};
 
 pub struct Lanes {
     pub s0: f32,
@@ -30,6 +31,35 @@ pub fn starting_at(v: f32) -> Lanes
         s6: v,
         s7: v,
     }
+}
+
+// Writes eight sums that fit.
+fn write(into: &mut [f32], at: usize, s: Lanes)
+    requires { ⌜ at + 8 ≤ length (now into) ⌝ }
+    ensures { λ _. ⌜ now (into .exit) ≡ stored (now (into .entry)) at (listed s) ⌝ }
+{
+    into[at] = s.s0;
+    into[at + 1] = s.s1;
+    into[at + 2] = s.s2;
+    into[at + 3] = s.s3;
+    into[at + 4] = s.s4;
+    into[at + 5] = s.s5;
+    into[at + 6] = s.s6;
+    into[at + 7] = s.s7;
+}
+
+// Writes eight sums into a slice, from `at` on. Where they do not fit, nothing is written. All were read
+// and computed before, so that the stores can be one.
+pub fn store(into: &mut [f32], at: usize, s: Lanes)
+    ensures { λ _. ⌜ now (into .exit) ≡ placed (now (into .entry)) at (listed s) ⌝ }
+{
+    if into.len() < 8 {
+        return;
+    }
+    if at > into.len() - 8 {
+        return;
+    }
+    write(into, at, s);
 }
 
 // Each sum with c times its sample added; the first sum's sample is the one at i.

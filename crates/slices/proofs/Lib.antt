@@ -1,0 +1,2 @@
+-- Laws of stored blocks, for what is built above them.
+pub mod Stored

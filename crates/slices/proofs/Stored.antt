@@ -1,0 +1,38 @@
+-- A stored block: what lies before it, after it, and at the end of a list.
+use Prim.Native.Nat.{ℕ, _+_, _≤_}
+use mathlib.Core.Path.{_≡_, _∙_}
+use mathlib.Core.List.{List, _++_, append-nil}
+use native.Mathlib.Omega.{arith}
+use borrow.Author.Tests.{le-leb}
+use lib.ListN.{length, take, drop, length-append, length-drop}
+use lib.Seq.{take-at, drop-at, drop-length, length-take-le}
+use lib.Ieee.{Float}
+use Rattle.slices.specs.Slices.{stored, placed}
+
+-- a block that fits is stored
+pub placed-stored : (l block : List Float) (at : ℕ) → at + length block ≤ length l → placed l at block ≡ stored l at block
+unfolding placed
+placed-stored l block at h = rw (le-leb (at + length block) (length l) h)
+
+module _ (l block : List Float) (start end : ℕ) (e : start + length block ≡ end) (h : end ≤ length l) where
+  front-long : length (take start l ++ block) ≡ end
+  front-long = length-append (take start l) block ∙ rw (length-take-le start l (omega arith), e)
+
+  -- up to the block's end a stored list is what lay before the block, and the block
+  pub take-stored : take end (stored l start block) ≡ take start l ++ block
+  unfolding stored
+  take-stored = take-at (take start l ++ block) _ end front-long
+
+  -- after it the list is as it was
+  pub drop-stored : drop end (stored l start block) ≡ drop end l
+  unfolding stored
+  drop-stored = rw e (drop-at (take start l ++ block) _ end front-long)
+
+  pub length-stored : length (stored l start block) ≡ length l
+  unfolding stored
+  length-stored = simp (length-append, length-drop) (omega (arith, length-take-le start l (omega arith)))
+
+-- a block stored at a list's end
+pub stored-last : (l block : List Float) (start : ℕ) → start + length block ≡ length l → stored l start block ≡ take start l ++ block
+unfolding stored
+stored-last l block start e = rw (e, drop-length l, append-nil)
