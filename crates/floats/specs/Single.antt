@@ -1,10 +1,10 @@
--- 32-bit floats in the words of the definitions: the four operations, each rounded once, constants, and the test for a number.
+-- 32-bit floats in the words of the definitions: the four operations, each rounded once, constants, and the tests of a lent set and of samples.
 use Prim.Native.Nat.{ℕ, _^_}
 use mathlib.Core.Bool.{Bool, true, false, _&&_}
 use mathlib.Core.List.{List, [], _∷_}
 use lib.IntN.{pos}
 use lib.ListN.{getD}
-use lib.Ieee.{Float, nan, inf, fin, binary32, round, add, sub, mul, div, ofInt}
+use lib.Ieee.{Float, nan, inf, fin, binary32, round, add, sub, mul, div, ofInt, le, neg}
 
 infixl 65 _⊕_ _⊖_
 infixl 70 _⊗_ _⊘_
@@ -42,6 +42,17 @@ finite nan = false
 finite (inf s) = false
 finite (fin s m e) = true
 
+-- each entry of a list passes a test
+abbrev pub each : (Float → Bool) → List Float → Bool
+each test [] = true
+each test (x ∷ xs) = test x && each test xs
+
 abbrev pub allFinite : List Float → Bool
-allFinite [] = true
-allFinite (x ∷ xs) = finite x && allFinite xs
+allFinite s = each finite s
+
+-- no NaN, and not beyond ±1,048,576
+unfoldable pub inRange : Float → Bool
+inRange x = le (neg (float 1048576)) x && le x (float 1048576)
+
+abbrev pub allInRange : List Float → Bool
+allInRange s = each inRange s

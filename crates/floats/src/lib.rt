@@ -1,8 +1,8 @@
-// 32-bit floats: the test that both ends make of a lent set, and bit patterns with one NaN.
+// 32-bit floats: the tests that a call makes of a lent set and of samples, and bit patterns with one NaN.
 pub mod bits;
 
 ghost use mathlib.Core.Path.{_≡_};
-ghost use Rattle.floats.specs.Single.{finite, allFinite};
+ghost use Rattle.floats.specs.Single.{finite, allFinite, inRange, allInRange};
 
 // Whether x is a number: no infinity and no NaN.
 fn is_finite(x: f32) -> bool
@@ -23,6 +23,27 @@ pub fn all_finite(s: &[f32]) -> bool
     let mut all = true;
     for i in 0..s.len() {
         all = all & is_finite(s[i]);
+    }
+    all
+}
+
+// Whether a sample is within ±1,048,576. A NaN is not.
+fn in_range(x: f32) -> bool
+    ensures { λ r. ⌜ r ≡ inRange x ⌝ }
+{
+    if -1048576.0 <= x {
+        return x <= 1048576.0;
+    }
+    false
+}
+
+// Whether every sample of a slice is, by a loop of the same kind.
+pub fn all_in_range(s: &[f32]) -> bool
+    ensures { λ r. ⌜ r ≡ allInRange (now (s .entry)) ⌝ }
+{
+    let mut all = true;
+    for i in 0..s.len() {
+        all = all & in_range(s[i]);
     }
     all
 }

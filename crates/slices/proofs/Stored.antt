@@ -5,7 +5,7 @@ use mathlib.Core.List.{List, _++_, append-nil}
 use native.Mathlib.Omega.{arith}
 use borrow.Author.Tests.{le-leb}
 use lib.ListN.{length, take, drop, length-append, length-drop}
-use lib.Seq.{take-at, drop-at, drop-length, length-take-le}
+use lib.Seq.{take-at, take-add, drop-at, drop-length, length-take-le}
 use lib.Ieee.{Float}
 use Rattle.slices.specs.Slices.{stored, placed}
 
@@ -32,7 +32,15 @@ module _ (l block : List Float) (start end : ℕ) (e : start + length block ≡ 
   unfolding stored
   length-stored = simp (length-append, length-drop) (omega (arith, length-take-le start l (omega arith)))
 
+-- a block that is placed at the front
+pub take-placed : (l block : List Float) → length block ≤ length l → take (length block) (placed l 0 block) ≡ block
+take-placed l block h = rw (placed-stored l block 0 (omega arith)) (take-stored l block 0 (length block) (omega arith) h)
+
 -- a block stored at a list's end
 pub stored-last : (l block : List Float) (start : ℕ) → start + length block ≡ length l → stored l start block ≡ take start l ++ block
 unfolding stored
 stored-last l block start e = rw (e, drop-length l, append-nil)
+
+-- a part after the first n entries
+pub drop-take : (n k : ℕ) (l : List Float) → n ≤ length l → drop n (take (n + k) l) ≡ take k (drop n l)
+drop-take n k l h = rw take-add (drop-at (take n l) _ n (length-take-le n l h))

@@ -1,0 +1,8 @@
+-- Laws of the filter's definitions, for its proofs and for what is built above it.
+pub mod Growing
+pub mod Reading
+pub mod Alike
+pub mod Late
+pub mod EightLanes
+pub mod Cases
+pub mod NotACopy

@@ -1,0 +1,61 @@
+-- What the functions that make eight outputs side by side promise. No promise of a public function names any of it.
+use Prim.Native.Nat.{ℕ, _+_, _≤_}
+use mathlib.Core.List.{List, _++_}
+use lib.Ieee.{Float}
+use lib.ListN.{replicate}
+use Rattle.floats.specs.Single.{_⊖_, _⊗_, 0·0, at}
+use Rattle.lanes.specs.Lanes.{all, firAdded, firTaken}
+use Rattle.lanes.specs.declared.Lanes.{Lanes}
+use Rattle.filter.specs.Fade.{factor, steady, faded}
+use Rattle.filter.specs.declared.coefficients.Taps.{Taps}
+use Rattle.filter.specs.declared.fade.Direction.{Direction}
+use Rattle.filter.specs.declared.fade.Run.{Run}
+
+-- both sums of the filter, for eight samples of x from i on and of y from j on
+unfoldable pub sums : List Float → List Float → List Float → ℕ → List Float → ℕ → Lanes
+sums num den x i y j = firTaken (firAdded (all 0·0) num x i) den y j
+
+-- eight samples of x from i on, less these
+abbrev pub less : List Float → ℕ → Lanes → Lanes
+less x i s = record {
+  s0 = at x i ⊖ s .s0;
+  s1 = at x (i + 1) ⊖ s .s1;
+  s2 = at x (i + 2) ⊖ s .s2;
+  s3 = at x (i + 3) ⊖ s .s3;
+  s4 = at x (i + 4) ⊖ s .s4;
+  s5 = at x (i + 5) ⊖ s .s5;
+  s6 = at x (i + 6) ⊖ s .s6;
+  s7 = at x (i + 7) ⊖ s .s7;
+}
+
+-- these, each times its factor of the fade, from its sample n on
+abbrev pub weighed : Direction → ℕ → ℕ → Lanes → Lanes
+weighed direction fade n s = record {
+  s0 = s .s0 ⊗ factor direction fade n;
+  s1 = s .s1 ⊗ factor direction fade (n + 1);
+  s2 = s .s2 ⊗ factor direction fade (n + 2);
+  s3 = s .s3 ⊗ factor direction fade (n + 3);
+  s4 = s .s4 ⊗ factor direction fade (n + 4);
+  s5 = s .s5 ⊗ factor direction fade (n + 5);
+  s6 = s .s6 ⊗ factor direction fade (n + 6);
+  s7 = s .s7 ⊗ factor direction fade (n + 7);
+}
+
+-- a run of outputs weighs the filter by the fade, or not at all
+abbrev pub weighedIn : Run → ℕ → ℕ → Lanes → Lanes
+weighedIn Run.Steady fade n s = s
+weighedIn (Run.Fade direction) fade n s = weighed direction fade n s
+
+-- the next output of a run
+abbrev pub nextIn : Run → ℕ → ℕ → Taps → List Float → List Float → Float
+nextIn Run.Steady history fade t x = steady t x
+nextIn (Run.Fade direction) history fade t x = faded direction history fade t x
+
+-- a faded run ends within the fade
+abbrev pub Within : Run → ℕ → ℕ → Type 0
+Within Run.Steady fade end = Unit
+Within (Run.Fade direction) fade end = end ≤ fade
+
+-- a line that lacks its first samples, with 0.0 in their place
+unfoldable pub late : ℕ → List Float → List Float
+late missing x = replicate missing 0·0 ++ x

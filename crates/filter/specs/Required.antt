@@ -1,0 +1,45 @@
+-- What the functions of this crate ask of their callers, who are the engines above it and no users.
+use Prim.Native.Nat.{ℕ, _+_, _*_, _/_, _≤_}
+use mathlib.Core.Path.{_≡_}
+use mathlib.Core.List.{List}
+use lib.Ieee.{Float}
+use lib.ListN.{length, drop}
+use Rattle.rates.specs.declared.table.Rate.{Rate}
+use Rattle.filter.specs.declared.coefficients.Taps.{Taps}
+use Rattle.filter.specs.declared.transition.Transition.{Transition}
+use Rattle.filter.specs.declared.transition.Transition.the-variants.{Inactive, Activated, Deactivated, ActiveNoPitchChange, ActivePitchChanged}
+
+-- the lent slices hold 4 rows each, and each row the entries that are used
+pub record Lent (fs : Rate) (numerators denominators : List Float) : Type 0 where
+  pub least : 2 ≤ fs .«l_den»
+  pub most : fs .«l_den» ≤ 12
+  pub num-used : fs .«l_den» ≤ fs .«num_row» + 1
+  pub den-used : fs .«l_den» + 1 ≤ fs .«den_row»
+  pub nums : length numerators ≡ 4 * fs .«num_row»
+  pub dens : length denominators ≡ 4 * fs .«den_row»
+
+-- every sample that F reads at i has an index, and those of y lie at least 18 before i
+pub record Inside (t : Taps) (i : ℕ) : Type 0 where
+  pub least : 2 ≤ t .«l_den»
+  pub most : t .«l_den» ≤ 12
+  pub inputs : t .«l_den» ≤ i
+  pub oldest : t .lag .whole + t .«l_den» ≤ i + t .«l_den» / 2
+  pub newest : t .«l_den» / 2 + 18 ≤ t .lag .whole
+
+-- the inputs x have 16 samples of their past in front, and the line y of outputs the history; both hold the same frame, and 8 outputs at
+-- least are made in the fade and behind it
+pub record Lines (fade history : ℕ) (x y : List Float) : Type 0 where
+  pub past : 16 ≤ history
+  pub fade-least : 8 ≤ fade
+  pub fade-most : fade ≤ 120
+  pub frame : 16 + fade + 8 ≤ length x
+  pub same : 16 + length y ≡ history + length x
+  pub inputs : drop history y ≡ drop 16 x
+
+-- the filters that a case uses can be computed behind a history
+abbrev pub Readable : Transition → Taps → Taps → ℕ → Type 0
+Readable Inactive old new history = Unit
+Readable Activated old new history = Inside new history
+Readable Deactivated old new history = Inside old history
+Readable ActiveNoPitchChange old new history = Inside new history
+Readable ActivePitchChanged old new history = Inside old history × Inside new history

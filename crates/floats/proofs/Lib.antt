@@ -1,0 +1,2 @@
+-- Laws of the floats' definitions.
+pub mod Tests
