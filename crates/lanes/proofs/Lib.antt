@@ -1,4 +1,5 @@
 -- Each of the eight sums is a sum by itself, and its steps may be taken in pairs.
 pub mod EachLane
+pub mod Times
 pub mod ThreeSums
 pub mod InPairs

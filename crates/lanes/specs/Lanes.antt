@@ -30,6 +30,10 @@ plus s c x i = record {
   s7 = s .s7 ⊕ c ⊗ at x (i + 7);
 }
 
+-- where x holds all eight samples
+unfoldable pub rowAdded : Lanes → Float → List Float → ℕ → Lanes
+rowAdded s c x i = cond (leb (i + 8) (length x)) (plus s c x i) s
+
 -- and subtracted
 abbrev pub minus : Lanes → Float → List Float → ℕ → Lanes
 minus s c x i = record {

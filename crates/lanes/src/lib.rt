@@ -4,7 +4,7 @@ ghost use mathlib.Core.Path.{_≡_};
 ghost use Prim.Native.Nat.{_+_, _≤_};
 ghost use lib.ListN.{length};
 ghost use Rattle.slices.specs.Slices.{stored, placed};
-ghost use Rattle.lanes.specs.Lanes.{all, listed, plus, minus, firInside, firAdded, firTaken, holds, Summed, threeCorrelated};
+ghost use Rattle.lanes.specs.Lanes.{all, listed, plus, minus, rowAdded, firInside, firAdded, firTaken, holds, Summed, threeCorrelated};
 
 pub struct Lanes {
     pub s0: f32,
@@ -77,6 +77,20 @@ fn add_scaled(s: Lanes, c: f32, x: &[f32], i: usize) -> Lanes
         s6: s.s6 + c * x[i + 6],
         s7: s.s7 + c * x[i + 7],
     }
+}
+
+// Each sum with c times its sample of a row added. Where x does not hold all eight, the sums are left as
+// they are.
+pub fn add_row(s: Lanes, c: f32, x: &[f32], i: usize) -> Lanes
+    ensures { λ r. ⌜ r ≡ rowAdded s c (now (x .entry)) i ⌝ }
+{
+    if x.len() < 8 {
+        return s;
+    }
+    if i > x.len() - 8 {
+        return s;
+    }
+    add_scaled(s, c, x, i)
 }
 
 // Each sum with c times its sample subtracted.

@@ -3,3 +3,4 @@ pub mod Table
 pub mod Durations
 pub mod Configs
 pub mod Answers
+pub mod Lengths

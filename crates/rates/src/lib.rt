@@ -2,4 +2,5 @@
 pub mod answer;
 pub mod config;
 pub mod duration;
+pub mod lengths;
 pub mod table;

@@ -19,9 +19,6 @@ Inv-loop c x i s₀ pairs j₀ s j =
 abbrev μ-loop : tie.MeasureT-loop
 μ-loop c x i s₀ pairs j₀ s j = pairs - j
 
-fir-inside-requires : tie.Need-fir-inside-requires Inv-loop μ-loop
-fir-inside-requires c κs = search needs
-
 returns : tie.Need-returns Inv-loop μ-loop
 unfolding firTaken
 returns c = rw (sym (c .before .fir-inside .ensures) ∙ not-true (c .before .fir-inside .result) (c .if1 .taken))
@@ -34,42 +31,6 @@ loop-holds c =
     let l = inside (a .c .now) (a .x .now) (a .i) h in
     (h, search needs, search needs, l .1, l .0, refl)
 
-mul-k : tie.Need-mul-k Inv-loop μ-loop
-mul-k c = search needs
-
-add-l : tie.Need-add-l Inv-loop μ-loop
-add-l c = search needs
-
-mul-sub-scaled : tie.Need-mul-sub-scaled Inv-loop μ-loop
-mul-sub-scaled c = search needs
-
-shared-slice-read-sub-scaled : tie.Need-shared-slice-read-sub-scaled Inv-loop μ-loop
-shared-slice-read-sub-scaled c = search needs
-
-sub-sub-scaled : tie.Need-sub-sub-scaled Inv-loop μ-loop
-sub-sub-scaled c = search needs
-
-sub-scaled-requires : tie.Need-sub-scaled-requires Inv-loop μ-loop
-sub-scaled-requires c κs = search needs
-
-mul-sub-scaled-2 : tie.Need-mul-sub-scaled-2 Inv-loop μ-loop
-mul-sub-scaled-2 c = search needs
-
-shared-slice-read-sub-scaled-2 : tie.Need-shared-slice-read-sub-scaled-2 Inv-loop μ-loop
-shared-slice-read-sub-scaled-2 c = search needs
-
-sub-sub-scaled-2 : tie.Need-sub-sub-scaled-2 Inv-loop μ-loop
-sub-sub-scaled-2 c = search needs
-
-sub-scaled-requires-2 : tie.Need-sub-scaled-requires-2 Inv-loop μ-loop
-sub-scaled-requires-2 c κs = search needs
-
-add-j : tie.Need-add-j Inv-loop μ-loop
-add-j c = search needs
-
-loop-less : tie.Need-loop-less Inv-loop μ-loop
-loop-less c = search needs
-
 loop-again : tie.Need-loop-again Inv-loop μ-loop
 loop-again c =
     let i = c .before .before .before .before .before .loop in (
@@ -80,21 +41,6 @@ loop-again c =
       search needs,
       rw (c .sub-scaled2 .ensures, c .before .before .sub-scaled .ensures, i .inv .5) (two-more _ _ (i .j)),
     )
-
-mul-last : tie.Need-mul-last Inv-loop μ-loop
-mul-last c = search needs
-
-mul-sub-scaled-3 : tie.Need-mul-sub-scaled-3 Inv-loop μ-loop
-mul-sub-scaled-3 c = search needs
-
-shared-slice-read-sub-scaled-3 : tie.Need-shared-slice-read-sub-scaled-3 Inv-loop μ-loop
-shared-slice-read-sub-scaled-3 c = search needs
-
-sub-sub-scaled-3 : tie.Need-sub-sub-scaled-3 Inv-loop μ-loop
-sub-sub-scaled-3 c = search needs
-
-sub-scaled-requires-3 : tie.Need-sub-scaled-requires-3 Inv-loop μ-loop
-sub-scaled-requires-3 c κs = search needs
 
 returns-2 : tie.Need-returns-2 Inv-loop μ-loop
 unfolding firTaken
@@ -117,26 +63,26 @@ sub-fir-spec =
     (tie.spec
     Inv-loop
     μ-loop
-    fir-inside-requires
+    (λ c κs. search needs)
     returns
     loop-holds
-    mul-k
-    add-l
-    mul-sub-scaled
-    shared-slice-read-sub-scaled
-    sub-sub-scaled
-    sub-scaled-requires
-    mul-sub-scaled-2
-    shared-slice-read-sub-scaled-2
-    sub-sub-scaled-2
-    sub-scaled-requires-2
-    add-j
-    loop-less
+    (λ c. search needs)
+    (λ c. search needs)
+    (λ c. search needs)
+    (λ c. search needs)
+    (λ c. search needs)
+    (λ c κs. search needs)
+    (λ c. search needs)
+    (λ c. search needs)
+    (λ c. search needs)
+    (λ c κs. search needs)
+    (λ c. search needs)
+    (λ c. search needs)
     loop-again
-    mul-last
-    mul-sub-scaled-3
-    shared-slice-read-sub-scaled-3
-    sub-sub-scaled-3
-    sub-scaled-requires-3
+    (λ c. search needs)
+    (λ c. search needs)
+    (λ c. search needs)
+    (λ c. search needs)
+    (λ c κs. search needs)
     returns-2
     returns-3)
