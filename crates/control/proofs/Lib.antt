@@ -1,0 +1,6 @@
+-- Laws of a call without its samples, for this crate's proofs and for what is built above it.
+pub mod Tested
+pub mod Sizes
+pub mod Fit
+pub mod Judging
+pub mod StaysFit

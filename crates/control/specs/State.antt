@@ -1,0 +1,68 @@
+-- The registers: what a decoder remembers beside its samples, which of them are fit, and how a run of inactive frames settles.
+use Prim.Native.Nat.{ℕ, _+_, min}
+use mathlib.Core.Bool.{Bool, true, false, cond, not, _&&_, _||_}
+use lib.Dec.{leb, ltb, eqb}
+use lib.ListN.{replicate}
+use Rattle.floats.specs.Single.{0·0}
+use Rattle.rates.specs.Configs.{configOf}
+use Rattle.rates.specs.declared.answer.Answer.the-variants.{UnfitState}
+use Rattle.rates.specs.declared.table.Rate.{Rate}
+use Rattle.rates.specs.declared.duration.FrameDuration.{FrameDuration}
+use Rattle.rates.specs.declared.duration.FrameDuration.the-variants.{TenMs, SevenPointFiveMs}
+use Rattle.rates.specs.declared.config.Lc3Config.{Lc3Config}
+use Rattle.rates.specs.declared.config.Configured.{Configured}
+use Rattle.rates.specs.declared.config.Configured.the-variants.{Config, Refused}
+use Rattle.lag.specs.Lag.{quarters, lagOf}
+use Rattle.lag.specs.declared.rescale.Lag.{Lag}
+use Rattle.control.specs.Pitch.{noLag}
+use Rattle.control.specs.declared.registers.Registers.{Registers}
+
+-- the registers of a start: inactive, no filter, an empty run, not settled
+unfoldable pub clearedRegisters : ℕ → ℕ → Registers
+clearedRegisters rate duration = record {
+  rate = rate;
+  duration = duration;
+  «ltpf_active_prev» = false;
+  «c_num» = replicate 11 0·0;
+  «c_den» = replicate 13 0·0;
+  lag = noLag;
+  run = 0;
+  settled = false;
+}
+
+-- the run's limit
+unfoldable pub settledLimit : FrameDuration → ℕ
+settledLimit TenMs = 3
+settledLimit SevenPointFiveMs = 4
+
+-- after an active frame the whole lag is between those of the indices 0 and 511, and the quarter at most 3
+unfoldable pub lagFits : Rate → Bool → Lag → Bool
+lagFits fs false lag = true
+lagFits fs true lag =
+    leb (lagOf (fs .r) (quarters 0) .whole) (lag .whole) && leb (lag .whole) (lagOf (fs .r) (quarters 511) .whole) && leb (lag .quarter) 3
+
+-- the run is not above 0 after an active frame, not above its limit, and not at its limit while settled is no
+unfoldable pub runFits : FrameDuration → Bool → ℕ → Bool → Bool
+runFits d active run settled =
+    not (active && ltb 0 run) && not (ltb (settledLimit d) run) && not (eqb run (settledLimit d) && not settled)
+
+-- fit: none of the things that the scope lists as unfit
+abbrev pub fit : Lc3Config → Registers → Bool
+fit c r = lagFits (c .fs) (r .«ltpf_active_prev») (r .lag) && runFits (c .«n_ms») (r .«ltpf_active_prev») (r .run) (r .settled)
+
+-- an unknown rate or duration is unfit too
+abbrev pub fitWith : Registers → Configured → Configured
+fitWith r (Refused a) = Refused UnfitState
+fitWith r (Config c) = cond (fit c r) (Config c) (Refused UnfitState)
+
+-- the configuration of fit registers; unfit ones are refused with 9
+abbrev pub fitConfig : Registers → Configured
+fitConfig r = fitWith r (configOf (r .rate) (r .duration))
+
+-- the run after a frame: an active frame zeroes it, an inactive one counts, up to the limit
+abbrev pub runAfter : FrameDuration → Bool → ℕ → ℕ
+runAfter d active run = cond active 0 (min (run + 1) (settledLimit d))
+
+-- settled becomes yes when the run reaches its limit, and stays so
+abbrev pub settledAfter : FrameDuration → Bool → ℕ → Bool
+settledAfter d settled run = settled || eqb run (settledLimit d)
