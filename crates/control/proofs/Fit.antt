@@ -29,7 +29,7 @@ use Rattle.filter.specs.Required.{Inside, Readable}
 use Rattle.filter.specs.Transition.{transitionOf, sameLag}
 use Rattle.filter.specs.declared.coefficients.Taps.{Taps}
 use Rattle.filter.specs.declared.transition.Transition.the-variants.{ActiveNoPitchChange, ActivePitchChanged}
-use Rattle.control.specs.Pitch.{isActive, lagWhere, lagFor}
+use Rattle.control.specs.Pitch.{isActive, noLag, lagWhere, lagFor}
 use Rattle.control.specs.State.{settledLimit, lagFits, runFits, fit, fitWith, fitConfig}
 use Rattle.control.specs.declared.registers.Registers.{Registers}
 use Rattle.control.proofs.Sizes.{FromTable, sized}
@@ -79,6 +79,16 @@ lag-for-fits fs (Present p) lag h = go (p .active) (leb (p .index) 511) refl h
     go true true e q =
         let same : lagOf (fs .r) (quarters (p .index)) ≡ lag = cc in
         subst (λ (l : Lag). lagFits fs true l ≡ true) same (between (leb-true (p .index) 511 e))
+
+-- and has a quarter in any case
+pub lag-for-quarter : (fs : Rate) (pitch : PitchRecord) (lag : Lag) → lagFor fs pitch ≡ FoundLag.Lag lag → lag .quarter ≤ 3
+lag-for-quarter fs Absent lag h = let same : noLag ≡ lag = cc in rw (← same) (omega arith)
+lag-for-quarter fs (Present p) lag h = go (p .active) (leb (p .index) 511) h
+  where
+    go : (a b : Bool) → lagWhere a (scaledTo fs (cond b (Unscaled.Quarters (quarters (p .index))) Unscaled.IndexTooLarge)) ≡ FoundLag.Lag lag → lag .quarter ≤ 3
+    go a false q = let z : _≡_ {A = ℕ} 0 1 = cc in absurd (omega arith)
+    go false true q = let same : noLag ≡ lag = cc in rw (← same) (omega arith)
+    go true true q = let same : lagOf (fs .r) (quarters (p .index)) ≡ lag = cc in rw (← same) (omega arith)
 
 -- whatever the case, its filters read inside the history
 pub readable : (p a : Bool) (lo ln : Lag) (old new : Taps) (history : ℕ) →

@@ -10,39 +10,17 @@ use lib.Dec.{eqb}
 use lib.ListN.{length, take, drop, length-append, length-take, length-drop}
 use lib.Seq.{take-at, drop-at, take-add, drop-drop, drop-length, drop-append-le, drop-append-add, length-take-le}
 use lib.Ieee.{Float}
-use Rattle.decoder.specs.Ring.{straight, stored, nextBlock}
-use Rattle.decoder.specs.Blocks.{newestEnd}
+use Rattle.slices.specs.Slices.{stored, placed}
+use Rattle.decoder.specs.Ring.{straight, nextBlock, newestEnd}
+use Rattle.slices.proofs.Stored.{placed-stored, length-placed, take-stored, drop-stored, stored-last, drop-take}
 use Rattle.decoder.proofs.StraightLines.{length-straight}
-
-module _ (l block : List Float) (start end : ℕ) (e : start + length block ≡ end) (h : end ≤ length l) where
-  front-long : length (take start l ++ block) ≡ end
-  front-long = length-append (take start l) block ∙ rw (length-take-le start l (omega arith), e)
-
-  -- up to the block's end a stored list is what lay before the block, and the block
-  pub take-stored : take end (stored l start block) ≡ take start l ++ block
-  unfolding stored
-  take-stored = take-at (take start l ++ block) _ end front-long
-
-  -- behind it the list is as it was
-  pub drop-stored : drop end (stored l start block) ≡ drop end l
-  unfolding stored
-  drop-stored = rw e (drop-at (take start l ++ block) _ end front-long)
-
-  pub length-stored : length (stored l start block) ≡ length l
-  unfolding stored
-  length-stored = simp (length-append, length-drop) (omega (arith, length-take-le start l (omega arith)))
-
--- a block stored at a line's end
-stored-last : (l block : List Float) (start : ℕ) → start + length block ≡ length l → stored l start block ≡ take start l ++ block
-unfolding stored
-stored-last l block start e = rw (e, drop-length l, append-nil)
 
 -- the line that `straighten` fills, part by part, from the ring and the frame
 pub straightened : (line line₁ line₂ line₃ ring frame : List Float) (history start : ℕ) →
     start ≤ history → history ≤ length ring → length line ≡ history + length frame →
-    line₁ ≡ stored line 0 (take (history - start) (drop start ring)) →
-    line₂ ≡ stored line₁ (history - start) (take start ring) →
-    line₃ ≡ stored line₂ history frame →
+    line₁ ≡ placed line 0 (take (history - start) (drop start ring)) →
+    line₂ ≡ placed line₁ (history - start) (take start ring) →
+    line₃ ≡ placed line₂ history frame →
     line₃ ≡ straight ring history start ++ frame
 unfolding straight
 straightened line line₁ line₂ line₃ ring frame history start s r h e₁ e₂ e₃ =
@@ -50,20 +28,19 @@ straightened line line₁ line₂ line₃ ring frame history start s r h e₁ e�
     let newer = take start ring in
     let long : length older ≡ history - start = length-take-le (history - start) (drop start ring) (simp length-drop (omega arith)) in
     let all : history - start + length newer ≡ history = omega (arith, length-take-le start ring (omega arith)) in
-    let long₁ : length line₁ ≡ length line = ap length e₁ ∙ length-stored line older 0 (history - start) (omega arith) (omega arith) in
-    let long₂ : length line₂ ≡ length line = ap length e₂ ∙ length-stored line₁ newer (history - start) history all (omega arith) ∙ long₁ in
+    let long₁ : length line₁ ≡ length line = ap length e₁ ∙ length-placed line older 0 in
+    let long₂ : length line₂ ≡ length line = ap length e₂ ∙ length-placed line₁ newer (history - start) ∙ long₁ in
     rw (
       e₃,
+      placed-stored line₂ frame history (omega arith),
       stored-last line₂ frame history (omega arith),
       e₂,
+      placed-stored line₁ newer (history - start) (omega arith),
       take-stored line₁ newer (history - start) history all (omega arith),
       e₁,
+      placed-stored line older 0 (omega arith),
       take-stored line older 0 (history - start) (omega arith) (omega arith),
     )
-
--- a part behind the first n entries
-pub drop-take : (n k : ℕ) (l : List Float) → n ≤ length l → drop n (take (n + k) l) ≡ take k (drop n l)
-drop-take n k l h = rw take-add (drop-at (take n l) _ n (length-take-le n l h))
 
 -- the newest block ends inside the history
 pub newest-inside : (history start : ℕ) → start ≤ history → newestEnd history start ≤ history
@@ -93,19 +70,21 @@ newest-past ring history start s h n = go (eqb start 0) refl n
 -- the line that `recent` fills
 pub recently : (line line₁ line₂ ring frame : List Float) (history start : ℕ) →
     start ≤ history → history ≤ length ring → 16 ≤ newestEnd history start → length line ≡ 16 + length frame →
-    line₁ ≡ stored line 0 (take 16 (drop (newestEnd history start - 16) ring)) →
-    line₂ ≡ stored line₁ 16 frame →
+    line₁ ≡ placed line 0 (take 16 (drop (newestEnd history start - 16) ring)) →
+    line₂ ≡ placed line₁ 16 frame →
     line₂ ≡ drop (history - 16) (straight ring history start ++ frame)
 recently line line₁ line₂ ring frame history start s r n h e₁ e₂ =
     let end = newestEnd history start in
     let block = take 16 (drop (end - 16) ring) in
     let inside : end ≤ history = newest-inside history start s in
     let long : length block ≡ 16 = length-take-le 16 (drop (end - 16) ring) (simp length-drop (omega arith)) in
-    let long₁ : length line₁ ≡ length line = ap length e₁ ∙ length-stored line block 0 16 (omega arith) (omega arith) in
+    let long₁ : length line₁ ≡ length line = ap length e₁ ∙ length-placed line block 0 in
     rw (
       e₂,
+      placed-stored line₁ frame 16 (omega arith),
       stored-last line₁ frame 16 (omega arith),
       e₁,
+      placed-stored line block 0 (omega arith),
       take-stored line block 0 16 (omega arith) (omega arith),
       drop-append-le (history - 16) (straight ring history start) frame (omega (arith, length-straight ring history start s r)),
       newest-past ring history start s r n,

@@ -1,4 +1,4 @@
--- The lines that a frame is filtered on: a straight past with the frame behind it, of the inputs only the newest part.
+-- The lines that a frame is filtered on: a straight past with the frame after it, of the inputs only the newest part.
 use Prim.Native.Nat.{ℕ, _+_, _-_, _≤_}
 use mathlib.Core.Path.{_≡_, sym, _∙_}
 use mathlib.Core.List.{List, _++_, append-nil}
@@ -7,15 +7,18 @@ use lib.ListN.{length, take, drop, length-append, length-take, length-drop, drop
 use lib.Seq.{take-at, drop-at, drop-drop, take-all}
 use lib.Ieee.{Float}
 use Rattle.rates.specs.declared.config.Lc3Config.{Lc3Config}
-use Rattle.decoder.specs.Ring.{straight, stored}
-use Rattle.decoder.specs.Transition.{outputs}
-use Rattle.decoder.specs.Blocks.{late}
-use Rattle.decoder.specs.Required.{Lines, Filterable}
+use Rattle.slices.specs.Slices.{stored, placed}
+use Rattle.slices.proofs.Stored.{placed-stored}
+use Rattle.decoder.specs.Ring.{straight}
+use Rattle.filter.specs.Transition.{outputs}
+use Rattle.filter.specs.Blocks.{late}
+use Rattle.filter.specs.Required.{Lines}
+use Rattle.decoder.specs.Required.{Filterable}
 use Rattle.decoder.specs.Frame.{filtered}
-use Rattle.decoder.specs.declared.coefficients.Taps.{Taps}
-use Rattle.decoder.specs.declared.transition.Transition.{Transition}
-use Rattle.decoder.specs.declared.transition.Transition.the-variants.{Inactive}
-use Rattle.decoder.proofs.Late.{late-alike, outputs-inputs}
+use Rattle.filter.specs.declared.coefficients.Taps.{Taps}
+use Rattle.filter.specs.declared.transition.Transition.{Transition}
+use Rattle.filter.specs.declared.transition.Transition.the-variants.{Inactive}
+use Rattle.filter.proofs.Late.{late-alike, outputs-inputs}
 
 pub length-straight : (ring : List Float) (history start : ℕ) → start ≤ history → history ≤ length ring → length (straight ring history start) ≡ history
 unfolding straight
@@ -51,7 +54,7 @@ module _ {t : Transition} {old new : Taps} {c : Lc3Config} {start : ℕ} {xs ys 
             ∙ sym (drop-drop 16 (c .history - 16) (straight xs (c .history) start ++ frame) ∙ rw e (drop-at (straight xs (c .history) start) frame (c .history) past-x));
       }
 
-  -- the outputs of the frame are what lies behind the past
+  -- the outputs of the frame are what lies after the past
   pub behind : (out : List Float) →
       out ≡ outputs t old new (c .fs .fade) (late (c .history - 16) (drop (c .history - 16) (straight xs (c .history) start ++ frame)))
       (take (c .history) (straight ys (c .history) start ++ frame)) →
@@ -76,10 +79,11 @@ untouched {c = c} {start = start} {xs = xs} {ys = ys} {frame = frame} f =
     let py : length y ≡ c .history = past-y f in
     rw (py, drop-at x frame (c .history) (past-x f), drop-at y frame (c .history) py)
 
--- the part of a line behind its past, put over samples of the same number
+-- the part of a line after its past, put over samples of the same number
 pub put-back : (samples out : List Float) (history : ℕ) → length out ≡ history + length samples →
-    stored samples 0 (take (length out - history) (drop history out)) ≡ drop history out
+    placed samples 0 (take (length out - history) (drop history out)) ≡ drop history out
 unfolding stored
 put-back samples out history e =
     let l : length (drop history out) ≡ length samples = simp length-drop (omega arith) in
-    rw (take-all (length out - history) (drop history out) (simp length-drop (omega arith)), l, drop-of-length-le samples {i = 0 + length samples} (omega arith), append-nil)
+    let all = take-all (length out - history) (drop history out) (simp length-drop (omega arith)) in
+    rw (all, placed-stored samples (drop history out) 0 (omega arith), l, drop-of-length-le samples {i = 0 + length samples} (omega arith), append-nil)

@@ -1,36 +1,29 @@
--- A frame and a loss mark: the order of refusals, and what an accepted frame gives.
-use Prim.Native.Nat.{ℕ, _*_}
-use mathlib.Core.Bool.{Bool, true, false, _&&_}
+-- A frame and a loss mark: what each gives back, refused or not.
+use Prim.Native.Nat.{ℕ}
 use mathlib.Core.List.{List, _++_}
-use lib.Dec.{leb, eqb}
 use lib.Ieee.{Float}
-use lib.ListN.{length, drop}
-use Rattle.floats.specs.Single.{allFinite}
+use lib.ListN.{drop}
+use Rattle.slices.specs.Slices.{stored}
 use Rattle.rates.specs.declared.answer.Answer.{Answer}
-use Rattle.rates.specs.declared.answer.Answer.the-variants.{Done, CoefficientCount, CoefficientNotFinite, SampleCount, TooManyBits, IndexTooLarge, SampleOutOfRange}
-use Rattle.rates.specs.declared.table.Rate.{Rate}
+use Rattle.rates.specs.declared.answer.Answer.the-variants.{Done}
 use Rattle.rates.specs.declared.config.Lc3Config.{Lc3Config}
 use Rattle.rates.specs.declared.config.Configured.{Configured}
-use Rattle.rates.specs.declared.config.Configured.the-variants.{Config, Refused}
-use Rattle.lag.specs.declared.pitch.PitchRecord.{PitchRecord}
-use Rattle.lag.specs.declared.rescale.Lag.{Lag}
-use Rattle.lag.specs.declared.rescale.FoundLag.{FoundLag}
-use Rattle.decoder.specs.Coefficients.{numRow, denRow, newTaps}
-use Rattle.decoder.specs.Transition.{transitionOf, outputs}
-use Rattle.decoder.specs.Ring.{straight, stored, nextBlock}
-use Rattle.decoder.specs.Pitch.{isActive, lagFor}
-use Rattle.decoder.specs.InRange.{allInRange}
-use Rattle.decoder.specs.State.{fitConfig, runAfter, settledAfter}
-use Rattle.decoder.specs.declared.coefficients.Taps.{Taps}
-use Rattle.decoder.specs.declared.transition.Transition.{Transition}
+use Rattle.filter.specs.Coefficients.{newTaps}
+use Rattle.filter.specs.Transition.{outputs}
+use Rattle.filter.specs.declared.coefficients.Taps.{Taps}
+use Rattle.filter.specs.declared.transition.Transition.{Transition}
+use Rattle.control.specs.Judge.{judged}
+use Rattle.control.specs.Next.{keptTaps, nextRegisters, unsettled}
+use Rattle.control.specs.declared.judge.SideInfo.{SideInfo}
+use Rattle.control.specs.declared.judge.Plan.{Plan}
+use Rattle.control.specs.declared.judge.Verdict.{Verdict}
+use Rattle.control.specs.declared.judge.Verdict.the-variants.{Refused, Accepted}
+use Rattle.decoder.specs.Ring.{straight, nextBlock}
+use Rattle.decoder.specs.State.{fitDecoder}
 use Rattle.decoder.specs.declared.state.Decoder.{Decoder}
 use Rattle.decoder.specs.declared.frame.Framed.{Framed}
 
--- the previous frame's filter, as the state keeps it
-abbrev pub oldTaps : Rate → Decoder → Taps
-oldTaps fs d = record { «l_den» = fs .«l_den»; «c_num» = d .«c_num»; «c_den» = d .«c_den»; lag = d .lag }
-
--- a frame's outputs: those of its case, behind the straight pasts of the two rings
+-- a frame's outputs: those of its case, after the straight pasts of the two rings
 unfoldable pub filtered : Transition → Taps → Taps → Lc3Config → ℕ → List Float → List Float → List Float → List Float
 filtered t old new c start xs ys frame =
     drop (c .history) (outputs t old new (c .fs .fade) (straight xs (c .history) start ++ frame) (straight ys (c .history) start))
@@ -40,103 +33,58 @@ abbrev pub filteredRings : Transition → Taps → Taps → Lc3Config → ℕ �
 filteredRings t old new c start xs ys frame =
     (stored xs start frame, stored ys start (filtered t old new c start xs ys frame), filtered t old new c start xs ys frame)
 
--- the outputs of an accepted frame
-abbrev pub outputsOf : Decoder → Lc3Config → Bool → Taps → List Float → List Float
-outputsOf d c active new frame =
-    filtered (transitionOf (d .«ltpf_active_prev») active (d .lag) (new .lag)) (oldTaps (c .fs) d) new c
+-- the filter of a frame with this plan
+abbrev pub tapsFor : Plan → List Float → List Float → Taps
+tapsFor plan numerators denominators = newTaps (plan .config .fs) (plan .active) (plan .gain) (plan .lag) numerators denominators
+
+-- the outputs of a frame with this plan and this filter
+abbrev pub outputsOf : Decoder → Plan → Taps → List Float → List Float
+outputsOf d plan new frame =
+    filtered (plan .transition) (keptTaps (plan .config .fs) (d .registers)) new (plan .config)
     (d .«block_start_index») (d .«x_hat_mem») (d .«x_hat_ltpf_mem») frame
 
--- the state after a frame with this filter, when the rings hold xs and ys: the filter is kept, the block start moves on, the run counts
-unfoldable pub nextState : Decoder → Lc3Config → Bool → Taps → List Float → List Float → Decoder
-nextState d c active new xs ys = record {
-  rate = d .rate;
-  duration = d .duration;
-  «ltpf_active_prev» = active;
-  «block_start_index» = nextBlock (c .history) (c .nf) (d .«block_start_index»);
-  «c_num» = new .«c_num»;
-  «c_den» = new .«c_den»;
-  lag = new .lag;
-  «x_hat_mem» = xs;
-  «x_hat_ltpf_mem» = ys;
-  run = runAfter (c .«n_ms») active (d .run);
-  settled = settledAfter (c .«n_ms») (d .settled) (runAfter (c .«n_ms») active (d .run));
-}
+-- an accepted frame: its inputs and its outputs are stored into the rings at the block start, which moves on
+unfoldable pub accepted : Decoder → Plan → List Float → List Float → List Float → Decoder × List Float
+accepted d plan numerators denominators samples =
+    let new = tapsFor plan numerators denominators in
+    let out = outputsOf d plan new samples in (
+      record {
+        registers = nextRegisters (d .registers) plan new;
+        «block_start_index» = nextBlock (plan .config .history) (plan .config .nf) (d .«block_start_index»);
+        «x_hat_mem» = stored (d .«x_hat_mem») (d .«block_start_index») samples;
+        «x_hat_ltpf_mem» = stored (d .«x_hat_ltpf_mem») (d .«block_start_index») out;
+      },
+      out,
+    )
 
 -- a call gives its answer, the settled report and the state; with it go the samples at exit
 abbrev pub framedAs : Answer → Decoder → Framed
-framedAs answer d = record { answer = answer; settled = d .settled; decoder = d }
-
--- a refused frame hands back the same state and samples
-abbrev pub refused : Answer → Decoder → List Float → Framed × List Float
-refused answer d samples = (framedAs answer d, samples)
-
--- an accepted frame: its inputs and its outputs are stored into the rings at the block start
-unfoldable pub accepted : Decoder → Lc3Config → Bool → Lag → ℕ → List Float → List Float → List Float → Decoder × List Float
-accepted d c active lag nbits numerators denominators samples =
-    let new = newTaps c active lag nbits numerators denominators in
-    let out = outputsOf d c active new samples in
-    (nextState d c active new (stored (d .«x_hat_mem») (d .«block_start_index») samples) (stored (d .«x_hat_ltpf_mem») (d .«block_start_index») out), out)
+framedAs answer d = record { answer = answer; settled = d .registers .settled; decoder = d }
 
 -- an accepted frame is answered with 0
 abbrev pub done : Decoder × List Float → Framed × List Float
 done r = (framedAs Done (r .0), r .1)
 
--- unless a test passes, the first; else the second
-abbrev pub unless : Bool → Framed × List Float → Framed × List Float → Framed × List Float
-unless false a b = a
-unless true a b = b
-
--- each slice has four rows
-abbrev pub setCounts : Lc3Config → List Float → List Float → Bool
-setCounts c numerators denominators =
-    eqb (length numerators) (4 * numRow (c .fs)) && eqb (length denominators) (4 * denRow (c .fs))
-
--- and each entry, used or not, is finite
-abbrev pub setFinite : List Float → List Float → Bool
-setFinite numerators denominators = allFinite numerators && allFinite denominators
-
--- the last checks, 7 and 8
-abbrev pub framedAt : Decoder → Lc3Config → List Float → List Float → PitchRecord → ℕ → List Float → FoundLag → Framed × List Float
-framedAt d c numerators denominators pitch nbits samples FoundLag.IndexTooLarge = refused IndexTooLarge d samples
-framedAt d c numerators denominators pitch nbits samples (FoundLag.Lag lag) =
-    unless (allInRange samples) (refused SampleOutOfRange d samples)
-    (done (accepted d c (isActive pitch) lag nbits numerators denominators samples))
-
--- the checks before them, 9, 3, 4, 5 and 6
-abbrev pub framedWith : Decoder → List Float → List Float → PitchRecord → ℕ → List Float → Configured → Framed × List Float
-framedWith d numerators denominators pitch nbits samples (Refused answer) = refused answer d samples
-framedWith d numerators denominators pitch nbits samples (Config c) =
-    unless (setCounts c numerators denominators) (refused CoefficientCount d samples)
-    (unless (setFinite numerators denominators) (refused CoefficientNotFinite d samples)
-    (unless (eqb (length samples) (c .nf)) (refused SampleCount d samples)
-    (unless (leb nbits 3200) (refused TooManyBits d samples)
-    (framedAt d c numerators denominators pitch nbits samples (lagFor (c .fs) pitch)))))
+-- a refused frame hands back the same state and samples
+abbrev pub framedWith : Decoder → List Float → List Float → List Float → Verdict → Framed × List Float
+framedWith d numerators denominators samples (Refused answer) = (framedAs answer d, samples)
+framedWith d numerators denominators samples (Accepted plan) = done (accepted d plan numerators denominators samples)
 
 -- a frame call: what it gives back, and the lent samples at exit
-unfoldable pub framed : Decoder → List Float → List Float → PitchRecord → ℕ → List Float → Framed × List Float
-framed d numerators denominators pitch nbits samples = framedWith d numerators denominators pitch nbits samples (fitConfig d)
+unfoldable pub framed : Decoder → List Float → List Float → SideInfo → List Float → Framed × List Float
+framed d numerators denominators side samples =
+    framedWith d numerators denominators samples (judged (d .registers) (fitDecoder d) numerators denominators side samples)
 
--- a loss mark sets the run to 0 and settled to no, and changes nothing else
-abbrev pub unsettled : Decoder → Decoder
-unsettled d = record {
-  rate = d .rate;
-  duration = d .duration;
-  «ltpf_active_prev» = d .«ltpf_active_prev»;
+-- a loss mark changes the registers alone; an unfit state is handed back as it is
+abbrev pub lostWith : Decoder → Configured → Framed
+lostWith d (Configured.Refused answer) = framedAs answer d
+lostWith d (Configured.Config c) = framedAs Done (record {
+  registers = unsettled (d .registers);
   «block_start_index» = d .«block_start_index»;
-  «c_num» = d .«c_num»;
-  «c_den» = d .«c_den»;
-  lag = d .lag;
   «x_hat_mem» = d .«x_hat_mem»;
   «x_hat_ltpf_mem» = d .«x_hat_ltpf_mem»;
-  run = 0;
-  settled = false;
-}
-
--- an unfit state is handed back as it is
-abbrev pub lostWith : Decoder → Configured → Framed
-lostWith d (Refused answer) = framedAs answer d
-lostWith d (Config c) = framedAs Done (unsettled d)
+})
 
 -- a loss mark checks 9 only
 unfoldable pub lostFrom : Decoder → Framed
-lostFrom d = lostWith d (fitConfig d)
+lostFrom d = lostWith d (fitDecoder d)

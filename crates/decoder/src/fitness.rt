@@ -1,27 +1,12 @@
-// Which states are fit: those that a start and frames can have led to, and some more.
-use crate::state::Registers;
-use lag::rescale::Lag;
-use lag::rescale::rescale;
+// Which states on a ring are fit.
+use control::fitness::fit_config;
+use control::registers::Registers;
 use rates::answer::Answer;
 use rates::config::Configured;
 use rates::config::Lc3Config;
-use rates::config::config;
-use rates::duration::FrameDuration;
-use rates::table::Rate;
 ghost use mathlib.Core.Path.{_≡_};
 ghost use Prim.Native.Nat.{_<_};
-ghost use Rattle.decoder.specs.State.{settledLimit, blockFits, lagFits, runFits, fitConfig};
-ghost use Rattle.decoder.specs.InPlace.{bare};
-
-// How many inactive frames in a row settle a registers.
-pub(crate) fn settled_limit(n_ms: FrameDuration) -> u32
-    ensures { λ r. ⌜ r ≡ settledLimit «n_ms» ⌝ }
-{
-    match n_ms {
-        FrameDuration::TenMs => 3,
-        FrameDuration::SevenPointFiveMs => 4,
-    }
-}
+ghost use Rattle.decoder.specs.State.{blockFits, fitRing};
 
 // Whether a block of the used history starts there.
 fn block_fits(config: Lc3Config, start: usize) -> bool
@@ -35,59 +20,15 @@ fn block_fits(config: Lc3Config, start: usize) -> bool
     false
 }
 
-// Whether the rate has the lag, if it is used.
-fn lag_fits(fs: Rate, active: bool, lag: Lag) -> bool
-    ensures { λ r. ⌜ r ≡ lagFits fs active lag ⌝ }
+// The configuration of fit registers and a block start that fits. Others are refused.
+pub(crate) fn fit_ring(registers: Registers, start: usize) -> Configured
+    ensures { λ r. ⌜ r ≡ fitRing registers start ⌝ }
 {
-    if active {
-        let smallest = rescale(fs.r, 128);
-        let largest = rescale(fs.r, 912);
-        if lag.whole < smallest.whole {
-            return false;
-        }
-        if largest.whole < lag.whole {
-            return false;
-        }
-        return lag.quarter <= 3;
-    }
-    true
-}
-
-// Whether a run of inactive frames can have that length.
-fn run_fits(n_ms: FrameDuration, active: bool, run: u32, settled: bool) -> bool
-    ensures { λ r. ⌜ r ≡ runFits «n_ms» active run settled ⌝ }
-{
-    let limit = settled_limit(n_ms);
-    if active {
-        return run == 0;
-    }
-    if run < limit {
-        return true;
-    }
-    if run == limit {
-        return settled;
-    }
-    false
-}
-
-// The configuration of a fit state. An unfit one is refused.
-pub(crate) fn fit_config(registers: Registers) -> Configured
-    ensures { λ r. ⌜ r ≡ fitConfig (bare registers) ⌝ }
-{
-    let Configured::Config(config) = config(registers.rate, registers.duration) else {
-        return Configured::Refused(Answer::UnfitState);
+    let config = match fit_config(registers) {
+        Configured::Config(config) => config,
+        Configured::Refused(answer) => return Configured::Refused(answer),
     };
-    let fs = config.fs;
-    let n_ms = config.n_ms;
-    let active = registers.ltpf_active_prev;
-    let lag = registers.lag;
-    if !block_fits(config, registers.block_start_index) {
-        return Configured::Refused(Answer::UnfitState);
-    }
-    if !lag_fits(fs, active, lag) {
-        return Configured::Refused(Answer::UnfitState);
-    }
-    if !run_fits(n_ms, active, registers.run, registers.settled) {
+    if !block_fits(config, start) {
         return Configured::Refused(Answer::UnfitState);
     }
     Configured::Config(config)

@@ -1,22 +1,12 @@
-// The ring that holds the used history in blocks of a frame: read straight, oldest first, and stored into.
+// The ring that holds the used history in blocks of a frame, read straight, oldest first.
+use slices::put;
 ghost use mathlib.Core.Path.{_≡_};
 ghost use mathlib.Core.List.{_++_};
 ghost use Prim.Native.Nat.{_+_, _-_, _≤_};
 ghost use lib.ListN.{length, drop};
-ghost use Rattle.decoder.specs.Ring.{straight, stored, nextBlock};
-ghost use Rattle.decoder.specs.Blocks.{newestEnd};
+ghost use Rattle.decoder.specs.Ring.{straight, nextBlock, newestEnd};
 
-// Copies a block into a slice, from the place given.
-pub(crate) fn put(into: &mut [f32], at: usize, block: &[f32])
-    requires { ⌜ at + length (now block) ≤ length (now into) ⌝ }
-    ensures { λ _. ⌜ now (into .exit) ≡ stored (now (into .entry)) at (now (block .entry)) ⌝ }
-{
-    for i in 0..block.len() {
-        into[at + i] = block[i];
-    }
-}
-
-// The past, oldest sample first, with a frame behind it.
+// The past, oldest sample first, with a frame after it.
 pub(crate) fn straighten(
     ring: &[f32],
     history: usize,
@@ -36,7 +26,7 @@ pub(crate) fn straighten(
     put(line, history, frame);
 }
 
-// Where the newest block ends: before the next block, or behind the last.
+// Where the newest block ends: before the next block, or at the end of the used history.
 fn newest_end(history: usize, block_start_index: usize) -> usize
     ensures { λ r. ⌜ r ≡ newestEnd history «block_start_index» ⌝ }
 {
@@ -47,7 +37,7 @@ fn newest_end(history: usize, block_start_index: usize) -> usize
     }
 }
 
-// The last 16 samples of the past, with a frame behind them.
+// The last 16 samples of the past, with a frame after them.
 pub(crate) fn recent(
     ring: &[f32],
     history: usize,
@@ -63,15 +53,7 @@ pub(crate) fn recent(
     put(line, 16, frame);
 }
 
-// Stores a frame into its block.
-pub(crate) fn store(ring: &mut [f32], block_start_index: usize, frame: &[f32])
-    requires { ⌜ «block_start_index» + length (now frame) ≤ length (now ring) ⌝ }
-    ensures { λ _. ⌜ now (ring .exit) ≡ stored (now (ring .entry)) «block_start_index» (now (frame .entry)) ⌝ }
-{
-    put(ring, block_start_index, frame);
-}
-
-// Where the next block starts: behind this one, or at the front again.
+// Where the next block starts: after this one, or at the front again.
 pub(crate) fn next_block(history: usize, nf: usize, block_start_index: usize) -> usize
     requires { ⌜ «block_start_index» + nf ≤ 1440 ⌝ }
     ensures { λ r. ⌜ r ≡ nextBlock history nf «block_start_index» ⌝ }

@@ -1,20 +1,19 @@
 // A frame filtered in place, between the rings that hold its past and take it up.
-use crate::coefficients::Taps;
-use crate::ring::put;
 use crate::ring::recent;
-use crate::ring::store;
 use crate::ring::straighten;
-use crate::transition::Transition;
-use crate::transition::filter_frame;
+use filter::coefficients::Taps;
+use filter::transition::Transition;
+use filter::transition::filter_frame;
 use rates::config::Lc3Config;
+use slices::put;
 ghost use mathlib.Core.Path.{_≡_};
 ghost use Prim.Native.Nat.{_+_};
 ghost use lib.ListN.{length};
 ghost use Rattle.decoder.specs.Frame.{filteredRings};
 ghost use Rattle.decoder.specs.Required.{Filterable};
 
-// Filters on two lines, which it fills: x has the frame behind the last 16 inputs, as far back as a
-// numerator reads and some more, and y behind all past outputs.
+// Filters on two lines, which it fills: x[-16..-1] are the last inputs, as far back as a numerator reads and some
+// more, y[-history..-1] all past outputs, and x[0..] and y[0..] the frame.
 fn filter_on(
     transition: Transition,
     old: Taps,
@@ -32,14 +31,14 @@ fn filter_on(
 {
     let history = config.history;
     recent(x_hat_mem, history, start, samples, x);
-    store(x_hat_mem, start, samples);
+    put(x_hat_mem, start, samples);
     straighten(x_hat_ltpf_mem, history, start, samples, y);
     filter_frame(transition, old, new, x, y, history, config.fs.fade);
     put(samples, 0, &y[history..]);
-    store(x_hat_ltpf_mem, start, samples);
+    put(x_hat_ltpf_mem, start, samples);
 }
 
-// Filters a frame behind the pasts that two rings hold, and stores its inputs and outputs into them.
+// Filters a frame after the pasts that two rings hold, and stores its inputs and outputs into them.
 // The first case leaves the samples as they are, and needs no line. To clear the long lines would
 // cost the low rates a third of a frame's time, so they have shorter ones.
 pub(crate) fn filter_samples(
@@ -56,8 +55,8 @@ pub(crate) fn filter_samples(
     ensures { λ _. ⌜ (now («x_hat_mem» .exit), now («x_hat_ltpf_mem» .exit), now (samples .exit)) ≡ filteredRings transition old new config start (now («x_hat_mem» .entry)) (now («x_hat_ltpf_mem» .entry)) (now (samples .entry)) ⌝ }
 {
     if let Transition::Inactive = transition {
-        store(x_hat_mem, start, samples);
-        store(x_hat_ltpf_mem, start, samples);
+        put(x_hat_mem, start, samples);
+        put(x_hat_ltpf_mem, start, samples);
         return;
     }
     let x_len = 16 + samples.len();

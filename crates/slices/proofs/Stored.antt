@@ -1,9 +1,11 @@
 -- A stored block: what lies before it, after it, and at the end of a list.
 use Prim.Native.Nat.{ℕ, _+_, _≤_}
-use mathlib.Core.Path.{_≡_, _∙_}
+use mathlib.Core.Path.{_≡_, refl, _∙_}
+use mathlib.Core.Bool.{Bool, true, false, cond}
 use mathlib.Core.List.{List, _++_, append-nil}
 use native.Mathlib.Omega.{arith}
-use borrow.Author.Tests.{le-leb}
+use borrow.Author.Tests.{le-leb, leb-true}
+use lib.Dec.{leb}
 use lib.ListN.{length, take, drop, length-append, length-drop}
 use lib.Seq.{take-at, take-add, drop-at, drop-length, length-take-le}
 use lib.Ieee.{Float}
@@ -31,6 +33,15 @@ module _ (l block : List Float) (start end : ℕ) (e : start + length block ≡ 
   pub length-stored : length (stored l start block) ≡ length l
   unfolding stored
   length-stored = simp (length-append, length-drop) (omega (arith, length-take-le start l (omega arith)))
+
+-- placed or not, a block changes no length
+pub length-placed : (l block : List Float) (at : ℕ) → length (placed l at block) ≡ length l
+unfolding placed
+length-placed l block at = go (leb (at + length block) (length l)) refl
+  where
+    go : (b : Bool) → leb (at + length block) (length l) ≡ b → length (cond b (stored l at block) l) ≡ length l
+    go true e = length-stored l block at (at + length block) refl (leb-true (at + length block) (length l) e)
+    go false e = refl
 
 -- a block that is placed at the front
 pub take-placed : (l block : List Float) → length block ≤ length l → take (length block) (placed l 0 block) ≡ block

@@ -1,0 +1,63 @@
+-- A state taken apart and put together again.
+use Prim.Native.Nat.{ℕ}
+use mathlib.Core.Path.{_≡_, refl, ap}
+use mathlib.Core.List.{List, []}
+use lib.Ieee.{Float}
+use Rattle.rates.specs.declared.config.Configured.{Configured}
+use Rattle.rates.specs.declared.config.Configured.the-variants.{Config, Refused}
+use Rattle.rates.specs.declared.answer.Answer.the-variants.{Done}
+use Rattle.filter.specs.declared.coefficients.Taps.{Taps}
+use Rattle.control.specs.Next.{keptTaps, nextRegisters}
+use Rattle.control.specs.declared.registers.Registers.{Registers}
+use Rattle.control.specs.declared.judge.Plan.{Plan}
+use Rattle.decoder.specs.Ring.{nextBlock}
+use Rattle.decoder.specs.State.{fitRing}
+use Rattle.decoder.specs.Frame.{filteredRings, tapsFor, accepted, done, lostWith, lostFrom}
+use Rattle.decoder.specs.InPlace.{joined, allApart, lostInPlace}
+use Rattle.decoder.specs.declared.frame.Framed.{Framed}
+use Rattle.decoder.specs.declared.frame.FramedInPlace.{FramedInPlace}
+
+-- what comes back from a call on the parts
+abbrev pub together : FramedInPlace → List Float → List Float → Framed
+together f xs ys = record { answer = f .answer; settled = f .settled; decoder = joined (f .registers) (f .«block_start_index») xs ys }
+
+-- is, put together, what the call on the state gives
+pub put-together : (f : Framed × List Float) (p : FramedInPlace) (xs ys samples : List Float) →
+    _≡_ {A = FramedInPlace × List Float × List Float × List Float} (p, xs, ys, samples) (allApart f) →
+    _≡_ {A = Framed × List Float} (together p xs ys, samples) f
+put-together f p xs ys samples e = rw (ap (λ q. q .0) e, ap (λ q. q .1) e, ap (λ q. q .2) e, ap (λ q. q .3) e)
+
+-- a loss mark does not look at the rings
+pub lost-without-rings : (r : Registers) (start : ℕ) (xs ys : List Float) → together (lostInPlace r start) xs ys ≡ lostFrom (joined r start xs ys)
+unfolding lostFrom
+lost-without-rings r start xs ys = go (fitRing r start)
+  where
+    go : (k : Configured) →
+        let l = lostWith (joined r start [] []) k in
+        record { answer = l .answer; settled = l .settled; decoder = joined (l .decoder .registers) (l .decoder .«block_start_index») xs ys }
+        ≡ lostWith (joined r start xs ys) k
+    go (Refused a) = refl
+    go (Config c) = refl
+
+-- what `carry_out` makes, part by part, is the accepted frame
+pub carried : (r : Registers) (start : ℕ) (xs ys nums dens frame : List Float) (plan : Plan) (old new : Taps) (next : Registers) (block : ℕ)
+    (xs′ ys′ out : List Float) →
+    old ≡ keptTaps (plan .config .fs) r →
+    new ≡ tapsFor plan nums dens →
+    (xs′, ys′, out) ≡ filteredRings (plan .transition) old new (plan .config) start xs ys frame →
+    next ≡ nextRegisters r plan new →
+    block ≡ nextBlock (plan .config .history) (plan .config .nf) start →
+    _≡_ {A = FramedInPlace × List Float × List Float × List Float}
+    (record { answer = Done; settled = next .settled; registers = next; «block_start_index» = block }, xs′, ys′, out)
+    (allApart (done (accepted (joined r start xs ys) plan nums dens frame)))
+unfolding accepted
+carried r start xs ys nums dens frame plan old new next block xs′ ys′ out o n f m e =
+    rw (
+      m,
+      e,
+      ap (λ (p : List Float × List Float × List Float). p .0) f,
+      ap (λ (p : List Float × List Float × List Float). p .1) f,
+      ap (λ (p : List Float × List Float × List Float). p .2) f,
+      n,
+      o,
+    )

@@ -1,0 +1,86 @@
+-- What a block start that fits has: a block inside the history, with samples before the newest one's end; and the block after it fits too.
+use Prim.Native.Nat.{ℕ, zero, suc, _+_, _*_, _/_, _%_, _≤_, _<_}
+use mathlib.Core.Path.{_≡_, refl}
+use mathlib.Core.Bool.{Bool, true, false, cond, _&&_}
+use native.Mathlib.Nat.{suc-mul, mul-le-mul-right, lt-of-mul-lt-mul-right, div-add-mod', add-mod-right, zero-mod}
+use native.Mathlib.Omega.{arith}
+use borrow.Author.Tests.{lt-ltb, ltb-true, eqb-true, eqb-false}
+use lib.Dec.{ltb, eqb}
+use Rattle.rates.specs.Configs.{frameOf, historyOf}
+use Rattle.rates.specs.declared.answer.Answer.the-variants.{UnfitState}
+use Rattle.rates.specs.declared.duration.FrameDuration.{FrameDuration}
+use Rattle.rates.specs.declared.duration.FrameDuration.the-variants.{TenMs, SevenPointFiveMs}
+use Rattle.rates.specs.declared.config.Lc3Config.{Lc3Config}
+use Rattle.rates.specs.declared.config.Configured.{Configured}
+use Rattle.rates.specs.declared.config.Configured.the-variants.{Config, Refused}
+use Rattle.rates.proofs.Known.{both}
+use Rattle.control.specs.State.{fitConfig}
+use Rattle.control.specs.declared.registers.Registers.{Registers}
+use Rattle.control.proofs.Sizes.{FromTable, sized}
+use Rattle.decoder.specs.Ring.{nextBlock, newestEnd}
+use Rattle.decoder.specs.State.{blockFits, withBlock, fitRing}
+
+-- the block that the next frame is stored into lies inside the history
+pub block-inside : (c : Lc3Config) (start : ℕ) → FromTable c → blockFits c start ≡ true → start + c .nf ≤ c .history
+unfolding blockFits
+block-inside c start k h =
+    let t = both (ltb start (c .history)) (eqb (start % c .nf) 0) h in
+    whole-blocks (c .«n_ms») (k .1 .frame) (k .1 .past) (ltb-true start (c .history) (t .0)) (eqb-true (start % c .nf) 0 (t .1))
+  where
+    blocks : (n : ℕ) → c .history ≡ n * c .nf → start < c .history → start % c .nf ≡ 0 → start + c .nf ≤ c .history
+    blocks n e l m =
+        let q : start / c .nf * c .nf ≡ start = omega (arith, div-add-mod' start (c .nf)) in
+        let few : start / c .nf < n = lt-of-mul-lt-mul-right (c .nf) (rw q (omega arith)) in
+        omega (arith, rw suc-mul at (mul-le-mul-right (c .nf) few))
+
+    whole-blocks : (d : FrameDuration) → c .nf ≡ frameOf (c .fs) d → c .history ≡ historyOf (c .fs) d → start < c .history → start % c .nf ≡ 0 →
+        start + c .nf ≤ c .history
+    whole-blocks TenMs f p l m = blocks 2 (rw f p) l m
+    whole-blocks SevenPointFiveMs f p l m = blocks 3 (rw f p) l m
+
+-- a multiple that is not 0 is at least the number itself
+multiple-least : (n q m : ℕ) → q * n ≡ m → 0 < m → n ≤ m
+multiple-least n zero m e h = absurd (omega arith)
+multiple-least n (suc q) m e h = omega arith
+
+-- and 16 samples at least lie before the newest block's end
+pub newest-fits : (c : Lc3Config) (start : ℕ) → FromTable c → blockFits c start ≡ true → 16 ≤ newestEnd (c .history) start
+unfolding blockFits
+newest-fits c start k h = go (eqb start 0) refl
+  where
+    whole : start / c .nf * c .nf ≡ start
+    whole = omega (arith, div-add-mod' start (c .nf), eqb-true (start % c .nf) 0 (both (ltb start (c .history)) (eqb (start % c .nf) 0) h .1))
+
+    go : (b : Bool) → eqb start 0 ≡ b → 16 ≤ cond b (c .history) start
+    go true p = omega (arith, sized c k)
+    go false p = omega (arith, sized c k, multiple-least (c .nf) (start / c .nf) start whole (omega (arith, eqb-false start 0 p)))
+
+-- the first block
+first-block : (c : Lc3Config) → 0 < c .history → blockFits c 0 ≡ true
+unfolding blockFits
+first-block c h = rw (lt-ltb 0 (c .history) h, zero-mod (c .nf))
+
+-- the block after a block that fits
+next-block : (c : Lc3Config) (start : ℕ) → 0 < c .history → start + c .nf ≤ c .history → start % c .nf ≡ 0 →
+    blockFits c (nextBlock (c .history) (c .nf) start) ≡ true
+unfolding blockFits
+next-block c start some h m = go (eqb (start + c .nf) (c .history)) refl
+  where
+    go : (b : Bool) → eqb (start + c .nf) (c .history) ≡ b → blockFits c (cond b 0 (start + c .nf)) ≡ true
+    go true e = first-block c some
+    go false e =
+        let n = eqb-false (start + c .nf) (c .history) e in
+        rw (lt-ltb (start + c .nf) (c .history) (omega arith), add-mod-right start (c .nf), m)
+
+-- a fit state has fit registers and a block start that fits
+pub ring-fits : (r : Registers) (start : ℕ) (c : Lc3Config) → fitRing r start ≡ Config c → (fitConfig r ≡ Config c) × (blockFits c start ≡ true)
+ring-fits r start c h = go (fitConfig r) refl h
+  where
+    picked : (k : Lc3Config) (b : Bool) → blockFits k start ≡ b → fitConfig r ≡ Config k → cond b (Config k) (Refused UnfitState) ≡ Config c →
+        (fitConfig r ≡ Config c) × (blockFits c start ≡ true)
+    picked k true f e q = let same : k ≡ c = cc in (rw same at e, rw same at f)
+    picked k false f e q = let z : _≡_ {A = ℕ} 0 1 = cc in absurd (omega arith)
+
+    go : (k : Configured) → fitConfig r ≡ k → withBlock start k ≡ Config c → (fitConfig r ≡ Config c) × (blockFits c start ≡ true)
+    go (Refused a) e q = let z : _≡_ {A = ℕ} 0 1 = cc in absurd (omega arith)
+    go (Config k) e q = picked k (blockFits k start) refl e q
