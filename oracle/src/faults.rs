@@ -144,9 +144,45 @@ fn case_5_differs(set: &Set, hz: u32, duration: u32, index: u32) -> bool {
     !same_samples(&theirs, &ours)
 }
 
+// Shows what the given Rust makes of a first frame at 8000 Hz, 10 ms that we refuse.
+fn refused_here(what: &str, answer: u8, pitch: Pitch, nbits: u32, samples: &[f32]) {
+    let mut rust = given::Decoder::start(&config(8000), 0.0);
+    let theirs = rust.frame(pitch, nbits, samples);
+    let shown = theirs.map(|s| (s[0], s[1], s[60]));
+    eprintln!("refused with {answer}, decoder: 8000 Hz, 10 ms, {what}");
+    eprintln!("  Rust: samples 0, 1, 60: {shown:?} (None: it panics)");
+}
+
+// Frames that we refuse: the given Rust goes on with them, but panics at index 600 and at 79 samples.
+fn refused_frames() {
+    let one = sparse(80, &[(0, 1.0)]);
+    refused_here(
+        "sample 0 is 1.0, active, index 0, nbits 3201",
+        6,
+        active(0),
+        3201,
+        &one,
+    );
+    refused_here("sample 0 is 1.0, active, index 512", 7, active(512), BITS, &one);
+    refused_here("sample 0 is 1.0, active, index 600", 7, active(600), BITS, &one);
+    for value in [f32::NAN, f32::INFINITY, 1_048_577.0] {
+        let samples = sparse(80, &[(1, value)]);
+        refused_here(&format!("sample 1 is {value}, absent"), 8, None, BITS, &samples);
+        refused_here(
+            &format!("sample 1 is {value}, active, index 0"),
+            8,
+            active(0),
+            BITS,
+            &samples,
+        );
+    }
+    refused_here("79 samples, absent", 5, None, BITS, &one[..79]);
+}
+
 pub fn decoder<W: Write>(judge: &mut DecoderJudge<W>, set: &Set) {
     reread_lags();
     set.install();
+    refused_frames();
     absent_as_index_0(judge, set);
     uncleared_decoder(judge, set);
     overwritten_fade(judge, set, 8000, 506, &sparse(80, &[(0, -0.0), (19, 1.0)]));
@@ -229,7 +265,22 @@ fn none_above_0<W: Write>(judge: &mut EncoderJudge<W>, set: &Set) {
     encoder_fault(judge, &set, what, 8000, &[(43, 1), (186, 1)], 3);
 }
 
+// Shows what the given Rust makes of a first frame at 8000 Hz, 10 ms with samples 39 = 1 and 58 = -1.
+fn refused_encoder_frame(answer: u8, nbits: u32, count: usize) {
+    let mut rust = given::Encoder::start(&config(8000), 0);
+    let shown = rust
+        .frame(false, nbits, &sparse(count, &[(39, 1), (58, -1)]))
+        .map(|r| (r.pitch_present, r.pitch_index, r.ltpf_active, r.nbits_ltpf));
+    eprintln!(
+        "refused with {answer}, encoder: 8000 Hz, 10 ms, {count} samples, 39 = 1 and 58 = -1, nbits {nbits}"
+    );
+    eprintln!("  Rust: present, index, active, bits: {shown:?} (None: it panics)");
+}
+
 pub fn encoder<W: Write>(judge: &mut EncoderJudge<W>, set: &Set) {
+    set.install();
+    refused_encoder_frame(6, 3201, 80);
+    refused_encoder_frame(5, BITS, 79);
     encoder_fault(judge, set, "absent as index 0, silence", 8000, &[], 1);
     encoder_fault(
         judge,

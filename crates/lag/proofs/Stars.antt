@@ -1,4 +1,4 @@
--- The rows that document 01 marks with a star, as one table.
+-- The rows that docs/SCOPE.md lists, as one table.
 use Prim.Native.Nat.{ℕ}
 use mathlib.Core.Path.{_≡_, refl}
 use mathlib.Core.List.{List, [], _∷_, map}

@@ -1,3 +1,3 @@
--- Lag and gain, in document 01's order.
+-- Lag and gain, in the order of docs/SCOPE.md.
 pub mod Lag
 pub mod Gain

@@ -1,4 +1,4 @@
--- The answer numbers of document 01.
+-- The answer numbers of docs/SCOPE.md.
 use Prim.Native.Nat.{ℕ}
 use Rattle.rates.specs.declared.answer.Answer.{Answer}
 use Rattle.rates.specs.declared.answer.Answer.the-variants.{Done, UnknownRate, UnknownDuration, CoefficientCount, CoefficientNotFinite, SampleCount, TooManyBits, IndexTooLarge, SampleOutOfRange, UnfitState, MalformedLine}

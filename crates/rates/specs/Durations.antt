@@ -1,4 +1,4 @@
--- The two frame durations of document 01, in microseconds.
+-- The two frame durations of docs/SCOPE.md, in microseconds.
 use Prim.Native.Nat.{ℕ}
 use mathlib.Core.Bool.{cond}
 use lib.Dec.{eqb}

@@ -1,4 +1,4 @@
--- What both ends share, in document 01's order: the table, the durations and lengths, the answers.
+-- What both ends share, in the order of docs/SCOPE.md: the table, the durations and lengths, the answers.
 pub mod Table
 pub mod Durations
 pub mod Configs

@@ -1,4 +1,4 @@
--- The six rates of document 01, row by row, and the row of a rate.
+-- The six rates of docs/SCOPE.md, row by row, and the row of a rate.
 use Prim.Native.Nat.{ℕ}
 use mathlib.Core.Bool.{cond}
 use mathlib.Core.List.{List, [], _∷_}
@@ -7,7 +7,7 @@ use Rattle.rates.specs.declared.table.Rate.{Rate}
 use Rattle.rates.specs.declared.table.FoundRate.{FoundRate}
 use Rattle.rates.specs.declared.table.FoundRate.the-variants.{Row, Unknown}
 
--- a row, in the order of the scope's columns: rate, fs_ind, R, frame at 10 and 7.5 ms, p, l_den, fade; then the entries of a numerator row
+-- a row, in the order of the columns in docs/SCOPE.md: rate, fs_ind, R, frame at 10 and 7.5 ms, p, l_den, fade; then the entries of a numerator row
 -- and of a denominator row as they are lent: l_num + 1 and l_den + 1, but 11 and 13 at 44100, of which the first 10 and 12 are used
 abbrev pub row : ℕ → ℕ → ℕ → ℕ → ℕ → ℕ → ℕ → ℕ → ℕ → ℕ → Rate
 row hz i r f g p l d n m =
