@@ -2,6 +2,7 @@
 use Prim.Native.Nat.{ℕ}
 use mathlib.Core.List.{List, []}
 use lib.Ieee.{Float}
+use Rattle.rates.specs.declared.answer.Answer.{Answer}
 use Rattle.control.specs.declared.registers.Registers.{Registers}
 use Rattle.control.specs.declared.judge.SideInfo.{SideInfo}
 use Rattle.decoder.specs.Frame.{framed, lostFrom}
@@ -12,6 +13,10 @@ use Rattle.decoder.specs.declared.frame.FramedInPlace.{FramedInPlace}
 -- the state of these parts
 abbrev pub joined : Registers → ℕ → List Float → List Float → Decoder
 joined r start xs ys = record { registers = r; «block_start_index» = start; «x_hat_mem» = xs; «x_hat_ltpf_mem» = ys }
+
+-- a refused call: the same state, and its settled report
+abbrev pub refusedAs : Answer → Registers → ℕ → FramedInPlace
+refusedAs answer r start = record { answer = answer; settled = r .settled; registers = r; «block_start_index» = start }
 
 -- what a call gives back, without the rings
 abbrev pub apart : Framed → FramedInPlace

@@ -11,7 +11,7 @@ use rates::answer::Answer;
 use rates::config::Configured;
 ghost use mathlib.Core.Path.{_≡_};
 ghost use Rattle.decoder.specs.Frame.{framed, lostFrom};
-ghost use Rattle.decoder.specs.InPlace.{framedInPlace, lostInPlace};
+ghost use Rattle.decoder.specs.InPlace.{refusedAs, framedInPlace, lostInPlace};
 
 // What a call gives back: its answer, the settled report and the state.
 pub struct Framed {
@@ -26,6 +26,19 @@ pub struct FramedInPlace {
     pub settled: bool,
     pub registers: Registers,
     pub block_start_index: usize,
+}
+
+// A refused call: the same state, and its settled report.
+fn refused(answer: Answer, registers: Registers, block_start_index: usize) -> FramedInPlace
+    ensures { λ r. ⌜ r ≡ refusedAs answer registers «block_start_index» ⌝ }
+{
+    let settled = registers.settled;
+    FramedInPlace {
+        answer,
+        settled,
+        registers,
+        block_start_index,
+    }
 }
 
 // Decodes one frame of a decoder whose rings are lent, which spares copying them: filters its samples
@@ -45,12 +58,7 @@ pub fn frame_in_place(
 {
     let fitted = fit_ring(registers, block_start_index);
     match judge(registers, fitted, numerators, denominators, side, samples) {
-        Verdict::Refused(answer) => FramedInPlace {
-            answer,
-            settled: registers.settled,
-            registers,
-            block_start_index,
-        },
+        Verdict::Refused(answer) => refused(answer, registers, block_start_index),
         Verdict::Accepted(plan) => carry_out(
             registers,
             block_start_index,
@@ -106,12 +114,7 @@ pub fn lost_in_place(registers: Registers, block_start_index: usize) -> FramedIn
     ensures { λ r. ⌜ r ≡ lostInPlace registers «block_start_index» ⌝ }
 {
     match fit_ring(registers, block_start_index) {
-        Configured::Refused(answer) => FramedInPlace {
-            answer,
-            settled: registers.settled,
-            registers,
-            block_start_index,
-        },
+        Configured::Refused(answer) => refused(answer, registers, block_start_index),
         Configured::Config(_) => FramedInPlace {
             answer: Answer::Done,
             settled: false,

@@ -15,11 +15,11 @@ carry-out-requires c κs =
 
 returns : tie.Need-returns
 unfolding framed
-returns c = rw (← c .before .before .before .before .before .fit-ring .ensures, ← c .before .before .before .judge .ensures, c .before .answer .given .1)
+returns c = rw (c .refused .ensures, ← c .before .before .before .before .before .before .fit-ring .ensures, ← c .before .before .before .before .judge .ensures, c .before .before .answer .given .1)
 
 returns-2 : tie.Need-returns-2
 unfolding framed
 returns-2 c = rw (← c .before .before .before .before .before .before .before .before .before .before .before .fit-ring .ensures, ← c .before .before .before .before .before .before .before .before .before .judge .ensures, c .before .before .before .before .before .before .before .plan .given .1) (c .before .before .carry-out .ensures)
 
 pub frame-in-place-spec : {M : Type 1} → statement M
-frame-in-place-spec = tie.close (tie.spec (λ c κs. search needs) (λ c κs. search needs) (λ c. search needs) (λ c. search needs) carry-out-requires (λ c. search needs) returns (λ c. search needs) returns-2)
+frame-in-place-spec = tie.close (tie.spec (λ c κs. search needs) (λ c κs. search needs) (λ c. search needs) (λ c κs. search needs) (λ c. search needs) carry-out-requires (λ c. search needs) returns (λ c. search needs) returns-2)
