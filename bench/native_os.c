@@ -1,22 +1,38 @@
 // On Arm only: the functions of the toolchain's os library that a program calls and that come compiled for x86-64
-// alone. A program is run with no arguments, and reads its standard input.
+// alone. A program gets its arguments, and reads its standard input.
 #include <errno.h>
 #include <stddef.h>
 #include <stdint.h>
+#include <string.h>
+
+static size_t count;
+static char **words;
+
+// glibc hands the arguments to a function that it runs before main.
+__attribute__((constructor)) static void keep_arguments(int argc, char **argv)
+{
+    count = (size_t)argc;
+    words = argv;
+}
 
 size_t rattle_arg_count(void)
 {
-    return 1;
+    return count;
 }
 
-// There is no argument i.
+// Argument i and its length, or -1 where there is none, -2 where it does not fit.
 intptr_t rattle_arg(size_t i, uint8_t *buffer, size_t room)
 {
-    (void)i, (void)buffer, (void)room;
-    return -1;
+    if (i >= count)
+        return -1;
+    size_t length = strlen(words[i]);
+    if (length > room)
+        return -2;
+    memcpy(buffer, words[i], length);
+    return (intptr_t)length;
 }
 
-// So no file is named.
+// No file is opened.
 int rattle_open_to_read(const uint8_t *path, size_t length)
 {
     (void)path, (void)length;

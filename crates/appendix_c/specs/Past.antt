@@ -1,20 +1,14 @@
 -- The decoder that a published past stands for, at 16000 Hz and 10 ms.
 use Prim.Native.Nat.{ℕ}
 use mathlib.Core.Bool.{Bool, false, cond}
-use mathlib.Core.List.{List}
-use lib.Ieee.{Float}
-use lib.ListN.{length, take, replicate}
-use lib.Seq.{paste}
+use lib.ListN.{take, replicate}
 use Rattle.floats.specs.Single.{0·0}
+use Rattle.slices.specs.Slices.{placed}
 use Rattle.lag.specs.declared.index.Unscaled.{Unscaled}
 use Rattle.lag.specs.declared.rescale.Lag.{Lag}
 use Rattle.lag.specs.Lag.{unscaledOf, lagOf}
 use Rattle.decoder.specs.declared.state.Decoder.{Decoder}
 use Rattle.appendix_c.specs.declared.cases.Past.{Past}
-
--- a list with a block in the place of its entries from `at` on
-unfoldable pub putInto : List Float → ℕ → List Float → List Float
-putInto into at block = paste into at block (length block)
 
 -- no lag, and the lag of an index: the rate is 2 times 8000
 abbrev pub noLag : Lag
@@ -35,11 +29,11 @@ decoderAfter past = record {
   duration = 10000;
   «ltpf_active_prev» = past .active;
   «block_start_index» = 0;
-  «c_num» = putInto (replicate 11 0·0) 0 (take 3 (past .«c_n» .values));
-  «c_den» = putInto (replicate 13 0·0) 1 (take 4 (past .«c_d» .values));
+  «c_num» = placed (replicate 11 0·0) 0 (take 3 (past .«c_n» .values));
+  «c_den» = placed (replicate 13 0·0) 1 (take 4 (past .«c_d» .values));
   lag = lagBefore (past .active) (past .index);
-  «x_hat_mem» = putInto (replicate 1080 0·0) 160 (take 160 (past .x .values));
-  «x_hat_ltpf_mem» = putInto (replicate 1080 0·0) 0 (take 320 (past .prev .values));
+  «x_hat_mem» = placed (replicate 1080 0·0) 160 (take 160 (past .x .values));
+  «x_hat_ltpf_mem» = placed (replicate 1080 0·0) 0 (take 320 (past .prev .values));
   run = 0;
   settled = false;
 }

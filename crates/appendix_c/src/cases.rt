@@ -16,16 +16,16 @@ use lag::rescale::rescale;
 use published::DENOMINATOR_16000;
 use published::NUMERATOR_16000;
 use rates::answer::number;
+use slices::put;
 use vectors::numbers::of_four;
 use vectors::part::first;
 use vectors::part::first_mut;
 use vectors::read::Floats;
 use vectors::read::read_bytes;
 use vectors::read::read_floats;
-ghost use Prim.Native.Nat.{_+_, _≤_};
 ghost use mathlib.Core.Path.{_≡_};
-ghost use lib.ListN.{length, take, drop};
-ghost use Rattle.appendix_c.specs.Past.{putInto, lagBefore, decoderAfter};
+ghost use lib.ListN.{take, drop};
+ghost use Rattle.appendix_c.specs.Past.{lagBefore, decoderAfter};
 
 const RATE: u32 = 16000;
 
@@ -93,16 +93,6 @@ fn read_given(fd: i32) -> Given {
         c_n,
         c_d,
         trans,
-    }
-}
-
-// Copies a block into a slice, from the place given.
-fn put(into: &mut [f32], at: usize, block: &[f32])
-    requires { ⌜ at + length (now block) ≤ length (now into) ⌝ }
-    ensures { λ _. ⌜ now (into .exit) ≡ putInto (now (into .entry)) at (now (block .entry)) ⌝ }
-{
-    for i in 0..block.len() {
-        into[at + i] = block[i];
     }
 }
 
@@ -210,7 +200,7 @@ fn decode(before: Decoder, pitch: PitchRecord, nbits: u32, inputs: [f32; 512]) -
     Made { framed, samples }
 }
 
-// A case: the frame is decoded behind its past, and the filter and the outputs are compared.
+// A case: the frame is decoded after its past, and the filter and the outputs are compared.
 pub(crate) fn compare_case(fd: i32, tally: Tally) -> Tally {
     let mut case = [0u8; 1];
     let numbered = read_bytes(fd, &mut case);

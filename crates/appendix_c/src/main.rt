@@ -14,7 +14,7 @@ use run::compare;
 fn compare_file(path: &[u8]) {
     let fd = os::open_read(path);
     if fd < 0 {
-        os::fail(path);
+        outcome::fail(path);
         return;
     }
     io::write_all(STDOUT_FILENO, path);

@@ -133,13 +133,15 @@ impl Tally {
         self.vector(name, i as u64, out)
     }
 
-    // The counts, on a line. Standard error is told if the line cannot be written.
+    // The counts, on a line. A value out of tolerance is a failure, and so is a line that cannot be
+    // written.
     pub(crate) fn print_counts(self) {
         print_count(STDOUT_FILENO, b"vectors ", self.vectors);
         print_count(STDOUT_FILENO, b" values ", self.values);
         print_count(STDOUT_FILENO, b" out ", self.out);
-        if !io::write_all(STDOUT_FILENO, b"\n") {
-            os::fail(b"standard output");
+        outcome::write_out(b"\n");
+        if self.out > 0 {
+            outcome::failed();
         }
     }
 
@@ -149,7 +151,7 @@ impl Tally {
         self
     }
 
-    // The same, and standard error is told why the rest of the file is not compared.
+    // The same, and standard error is told why the rest of the file is not compared: a failure.
     pub(crate) fn stop(self, why: &[u8]) -> Self {
         let place = self.place;
         io::write_all(STDERR_FILENO, b"after ");
@@ -157,6 +159,7 @@ impl Tally {
         io::write_all(STDERR_FILENO, b": ");
         io::write_all(STDERR_FILENO, why);
         io::write_all(STDERR_FILENO, b"\n");
+        outcome::failed();
         self.end()
     }
 }

@@ -20,7 +20,7 @@ fn list_some(from: Listing) -> Read {
     let mut out = io::large_buffer();
     let got = libc::read(STDIN_FILENO, &mut input);
     if got < 0 {
-        os::fail(b"standard input");
+        outcome::fail(b"standard input");
         return Read {
             listing: from,
             more: false,
@@ -74,6 +74,7 @@ fn main() {
             STDERR_FILENO,
             b"lags takes no arguments: it reads lines of rate, tab, pitch index from standard input.\nA dash for the rate means 48000, a dash for the index no pitch.\n",
         );
+        outcome::failed();
         return;
     }
     let begun = begin();

@@ -1,3 +1,7 @@
--- Laws of numbers as text, for this crate and those above it.
+-- Laws of numbers as text, of text in a buffer, and of listings, for this crate and those above it.
 pub mod Decimals
 pub mod Stores
+pub mod HeldLines
+pub mod Cuts
+pub mod Feeding
+pub mod WholeInput

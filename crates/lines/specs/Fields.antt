@@ -7,10 +7,13 @@ use lib.ListN.{length, getD}
 use Rattle.lines.specs.declared.field.Number.{Number}
 use Rattle.lines.specs.declared.field.Field.{Field}
 
--- where the first tab stands; the length where there is none
-unfoldable pub tabAt : List ℕ → ℕ
-tabAt [] = zero
-tabAt (b ∷ bs) = cond (eqb b 9) zero (suc (tabAt bs))
+-- where a byte first stands; the length where it does not
+unfoldable pub byteAt : ℕ → List ℕ → ℕ
+byteAt byte [] = zero
+byteAt byte (b ∷ bs) = cond (eqb b byte) zero (suc (byteAt byte bs))
+
+abbrev pub tabAt : List ℕ → ℕ
+tabAt line = byteAt 9 line
 
 -- the number that digits make after those of v; anything else among them is malformed
 unfoldable pub digitsAfter : ℕ → List ℕ → Number

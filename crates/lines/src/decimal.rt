@@ -1,17 +1,15 @@
 // A number written as decimal text.
 ghost use mathlib.Core.Path.{_≡_};
-ghost use mathlib.Core.Bool.{cond};
 ghost use Prim.Native.Nat.{_+_, _≤_};
-ghost use lib.Dec.{leb};
 ghost use lib.ListN.{length};
 ghost use lib.Seq.{sets};
 ghost use Rattle.lines.specs.Decimal.{decimal};
+ghost use Rattle.lines.specs.Texts.{Put};
 
 // Writes n's digits from `at` on, and answers where the next byte goes. Where fewer than 20 bytes
 // are left it writes nothing, and answers `at`.
 pub fn put_number(out: &mut [u8], at: usize, n: u64) -> usize
-    ensures { λ r. ⌜ r ≡ cond (leb (at + 20) (length (now (out .entry)))) (at + length (decimal n)) at ⌝ }
-    ensures { λ r. ⌜ now (out .exit) ≡ cond (leb (at + 20) (length (now (out .entry)))) (sets (now (out .entry)) at (decimal n)) (now (out .entry)) ⌝ }
+    ensures { λ r. ⌜ Put 20 (now (out .entry)) at (decimal n) (now (out .exit)) r ⌝ }
 {
     if out.len() < 20 {
         return at;

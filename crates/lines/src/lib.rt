@@ -1,3 +1,5 @@
-// Tab-parted text: fields and numbers in a line, and numbers written as text.
+// Tab-parted text: the fields of a line, the cells of a row, and the line that is being read.
+pub mod cell;
 pub mod decimal;
 pub mod field;
+pub mod held;

@@ -1,4 +1,3 @@
--- The listing's laws: bytes in any cuts, lines that are too long, and the whole input.
-pub mod Cuts
+-- The listing's laws: lines that are too long, and the whole input.
 pub mod LongLines
 pub mod WholeInput

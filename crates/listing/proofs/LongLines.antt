@@ -1,4 +1,4 @@
--- A line of 12 bytes or more is malformed: two fields of five bytes and a tab are eleven. So its first 12 bytes say it.
+-- A line of 12 bytes or more is malformed: two fields of five bytes and a tab are eleven.
 use Prim.Native.Nat.{ℕ, _+_, _≤_, _<_}
 use mathlib.Core.Path.{_≡_, refl, sym, _∙_}
 use mathlib.Core.Bool.{Bool, true, false, cond}
@@ -12,6 +12,8 @@ use Rattle.lines.specs.Fields.{tabAt, numberOf, fieldOf}
 use Rattle.lines.specs.declared.field.Field.{Field}
 use Rattle.lines.specs.declared.field.Number.{Number}
 use Rattle.rates.specs.declared.answer.Answer.{Answer}
+use Rattle.lines.specs.Listings.{Decided}
+use Rattle.listing.specs.Whole.{lagRules}
 use Rattle.listing.specs.Rows.{answerTo, lookedUp, refusedRow}
 
 long-number : (s : List ℕ) → 5 < length s → numberOf 5 s ≡ Number.Malformed
@@ -49,12 +51,15 @@ long-line s h = go (ltb (tabAt s) (length s)) refl
     go true p = long-side s (tabAt s) h (ltb-true _ _ p)
     go false p = refl
 
--- the first 12 bytes of a line are answered as the line is
-pub first-twelve : (s : List ℕ) → answerTo (take 12 s) ≡ answerTo s
-first-twelve s = go (leb (length s) 12) refl
+-- so its first 32 bytes are answered as the line is, and they are all that is held
+first-bytes : (s : List ℕ) → answerTo (take 32 s) ≡ answerTo s
+first-bytes s = go (leb (length s) 32) refl
   where
-    go : (b : Bool) → leb (length s) 12 ≡ b → answerTo (take 12 s) ≡ answerTo s
-    go true p = rw (take-all 12 s (leb-true _ _ p))
+    go : (b : Bool) → leb (length s) 32 ≡ b → answerTo (take 32 s) ≡ answerTo s
+    go true p = rw (take-all 32 s (leb-true _ _ p))
     go false p =
-        let l : 12 < length s = leb-false (length s) 12 p in
-        long-line (take 12 s) (rw (length-take-le 12 s (omega arith)) (omega arith)) ∙ sym (long-line s (omega arith))
+        let l : 32 < length s = leb-false (length s) 32 p in
+        long-line (take 32 s) (rw (length-take-le 32 s (omega arith)) (omega arith)) ∙ sym (long-line s (omega arith))
+
+pub decided : Decided lagRules
+decided = record { moves = λ s line. refl; answers = λ s line. rw (first-bytes line) }

@@ -1,7 +1,7 @@
 -- A line of the listing: which row answers it, and the row's text.
 use Prim.Native.Nat.{ℕ, _+_}
 use mathlib.Core.Bool.{cond}
-use mathlib.Core.List.{List, [], _∷_, _++_}
+use mathlib.Core.List.{List, _++_}
 use lib.Dec.{ltb}
 use lib.ListN.{length, take, drop}
 use Rattle.rates.specs.Answers.{numberOf}
@@ -12,7 +12,7 @@ use Rattle.rates.specs.declared.table.FoundRate.{FoundRate}
 use Rattle.lag.specs.Lag.{foundLag}
 use Rattle.lag.specs.declared.rescale.FoundLag.{FoundLag}
 use Rattle.lines.specs.Fields.{tabAt, fieldOf}
-use Rattle.lines.specs.Decimal.{decimal}
+use Rattle.lines.specs.Texts.{cell, dashCell}
 use Rattle.lines.specs.declared.field.Field.{Field}
 use Rattle.listing.specs.declared.row.Row.{Row}
 use Rattle.listing.specs.declared.row.Shown.{Shown}
@@ -49,19 +49,12 @@ lookedUp Field.Dash index = atRate 48000 index
 lookedUp (Field.Number hz) index = atRate hz index
 lookedUp Field.Malformed index = refusedRow Answer.MalformedLine
 
--- both fields are needed: what stands before the first tab, and what stands behind it
+-- both fields are needed: what stands before the first tab, and what stands after it
 unfoldable pub answerTo : List ℕ → Row
 answerTo line =
     cond (ltb (tabAt line) (length line))
     (lookedUp (fieldOf 5 (take (tabAt line) line)) (fieldOf 5 (drop (tabAt line + 1) line)))
     (refusedRow Answer.MalformedLine)
-
--- a cell and the byte that ends it
-abbrev pub cell : ℕ → ℕ → List ℕ
-cell n end = decimal n ++ (end ∷ [])
-
-abbrev pub dashCell : ℕ → List ℕ
-dashCell end = 45 ∷ end ∷ []
 
 -- whole and quarter
 abbrev pub shownText : Shown → List ℕ

@@ -2,7 +2,8 @@
 use lag::rescale::FoundLag;
 use lag::rescale::Lag;
 use lag::rescale::compute_filter_parameters;
-use lines::decimal::put_number;
+use lines::cell::put_cell;
+use lines::cell::put_dash;
 use lines::field::Field;
 use lines::field::first_tab;
 use lines::field::read_field;
@@ -16,7 +17,7 @@ ghost use Prim.Native.Nat.{_+_, _≤_};
 ghost use lib.ListN.{length};
 ghost use Rattle.lines.specs.Texts.{Written};
 ghost use Rattle.listing.specs.Rows.{refusedRow, lagRow, atRate, lookedUp, answerTo};
-ghost use Rattle.listing.specs.Rows.{cell, dashCell, shownText, rowText};
+ghost use Rattle.listing.specs.Rows.{shownText, rowText};
 
 // The lag that a row shows: dashes where there is none.
 pub enum Shown {
@@ -95,28 +96,6 @@ pub fn answer_line(line: &[u8]) -> Row
     look_up(rate, index)
 }
 
-// A number, and the byte that ends its cell.
-fn put_cell(out: &mut [u8], at: usize, n: u64, end: u8) -> usize
-    requires { ⌜ at + 21 ≤ length (now out) ⌝ }
-    ensures { λ r. ⌜ Written (now (out .entry)) at (cell n end) (now (out .exit)) r ⌝ }
-    ensures { λ r. ⌜ r ≤ at + 21 ⌝ }
-{
-    let next = put_number(out, at, n);
-    out[next] = end;
-    next + 1
-}
-
-// A dash, and the byte that ends its cell.
-fn put_dash(out: &mut [u8], at: usize, end: u8) -> usize
-    requires { ⌜ at + 2 ≤ length (now out) ⌝ }
-    ensures { λ r. ⌜ Written (now (out .entry)) at (dashCell end) (now (out .exit)) r ⌝ }
-    ensures { λ r. ⌜ r ≤ at + 2 ⌝ }
-{
-    out[at] = b'-';
-    out[at + 1] = end;
-    at + 2
-}
-
 // The two cells of a lag.
 fn put_shown(out: &mut [u8], at: usize, lag: Shown) -> usize
     requires { ⌜ at + 42 ≤ length (now out) ⌝ }
@@ -135,7 +114,7 @@ fn put_shown(out: &mut [u8], at: usize, lag: Shown) -> usize
     }
 }
 
-// A row's text, with the number of its line in front.
+// A row's text, with the number of its line first.
 pub(crate) fn put_row(out: &mut [u8], at: usize, line: u64, row: Row) -> usize
     requires { ⌜ at + 84 ≤ length (now out) ⌝ }
     ensures { λ r. ⌜ Written (now (out .entry)) at (rowText line row) (now (out .exit)) r ⌝ }

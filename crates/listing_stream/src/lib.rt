@@ -1,24 +1,17 @@
 // The listing over standard output: what every program that lists has in common.
-use libc::STDOUT_FILENO;
+use libc::STDERR_FILENO;
 use listing::machine::Listing;
+use outcome::write_out;
 ghost use mathlib.Core.Path.{_≡_};
 ghost use mathlib.Core.Bool.{false};
 ghost use Rattle.listing.specs.Machine.{first, after};
 
 // The listing after some input, and whether it stopped before its end: where standard output took
-// no more, or the buffer is shorter than a row. No contract can say what was written.
+// no more, or the buffer has no space for a row. Why it stopped is said. No contract can say what
+// was written.
 pub struct Pumped {
     pub listing: Listing,
     pub failed: bool,
-}
-
-// Writes text, or says why it cannot.
-fn write_out(text: &[u8]) -> bool {
-    let is_written = io::write_all(STDOUT_FILENO, text);
-    if !is_written {
-        os::fail(b"standard output");
-    }
-    is_written
 }
 
 // A listing with its header written.
@@ -35,6 +28,15 @@ pub fn begin() -> Pumped
     }
 }
 
+// A caller's buffer has no space for a row.
+fn no_space() {
+    io::write_all(
+        STDERR_FILENO,
+        b"the listing's buffer has no space for a row\n",
+    );
+    outcome::failed();
+}
+
 // Feeds a piece of the input to the listing, and writes the rows that it makes by way of out.
 pub fn pump(from: Listing, input: &[u8], out: &mut [u8]) -> Pumped
     ensures { λ r. ⌜ (r .failed ≡ false → r .listing ≡ after from (now (input .entry))) ⌝ }
@@ -47,6 +49,7 @@ pub fn pump(from: Listing, input: &[u8], out: &mut [u8]) -> Pumped
         let next = fed.listing;
         listing = next;
         if fed.used == 0 {
+            no_space();
             return Pumped {
                 listing,
                 failed: true,

@@ -1,4 +1,4 @@
-// Lists each file that an argument names three times: byte by byte into the least room, in pieces
+// Lists each file that an argument names three times: byte by byte into the least space, in pieces
 // of 7 bytes, and in one piece. The three must be the same.
 use libc::STDERR_FILENO;
 use listing::machine::Listing;
@@ -47,7 +47,6 @@ fn list_cut(input: &[u8], cut: usize, out: &mut [u8]) {
     let first = begun.listing;
     let pumped = pump_cut(first, input, cut, out);
     if pumped.failed {
-        io::write_all(STDERR_FILENO, b"listing_test: the listing stopped early\n");
         return;
     }
     let listing = pumped.listing;
@@ -57,7 +56,7 @@ fn list_cut(input: &[u8], cut: usize, out: &mut [u8]) {
 fn list_file(path: &[u8]) {
     let fd = os::open_read(path);
     if fd < 0 {
-        os::fail(path);
+        outcome::fail(path);
         return;
     }
     let mut input = io::buffer();
@@ -75,6 +74,7 @@ fn main() {
     let n = os::arg_count();
     if n < 2 {
         io::write_all(STDERR_FILENO, b"listing_test wants the files to list\n");
+        outcome::failed();
     }
     let mut path = io::buffer();
     for i in 1..n {

@@ -1,32 +1,40 @@
 // Writes the bits of each published table, to be compared with the bits that came with them.
 use libc::STDOUT_FILENO;
 
-fn print_table(name: &[u8], table: &[f32]) {
+fn print_bits(value: f32) -> bool {
+    io::print_hex(STDOUT_FILENO, floats::bits::bits_of(value) as u64, 8);
+    outcome::write_out(b"\n")
+}
+
+// Writes a table, as far as it can be written, and answers whether all of it was.
+fn print_table(name: &[u8], table: &[f32]) -> bool {
     io::write_all(STDOUT_FILENO, name);
     io::write_all(STDOUT_FILENO, b" ");
     io::print_decimal(STDOUT_FILENO, table.len() as u64);
     io::write_all(STDOUT_FILENO, b"\n");
     for i in 0..table.len() {
-        io::print_hex(STDOUT_FILENO, floats::bits::bits_of(table[i]) as u64, 8);
-        io::write_all(STDOUT_FILENO, b"\n");
+        if !print_bits(table[i]) {
+            return false;
+        }
     }
+    true
 }
 
 fn main() {
-    print_table(b"resampling", &published::RESAMPLING);
-    print_table(
-        b"correlation_interpolation",
-        &published::CORRELATION_INTERPOLATION,
-    );
-    print_table(b"signal_interpolation", &published::SIGNAL_INTERPOLATION);
-    print_table(b"numerator_8000", &published::NUMERATOR_8000);
-    print_table(b"denominator_8000", &published::DENOMINATOR_8000);
-    print_table(b"numerator_16000", &published::NUMERATOR_16000);
-    print_table(b"denominator_16000", &published::DENOMINATOR_16000);
-    print_table(b"numerator_24000", &published::NUMERATOR_24000);
-    print_table(b"denominator_24000", &published::DENOMINATOR_24000);
-    print_table(b"numerator_32000", &published::NUMERATOR_32000);
-    print_table(b"denominator_32000", &published::DENOMINATOR_32000);
-    print_table(b"numerator_48000", &published::NUMERATOR_48000);
-    print_table(b"denominator_48000", &published::DENOMINATOR_48000);
+    let _is_written = print_table(b"resampling", &published::RESAMPLING)
+        && print_table(
+            b"correlation_interpolation",
+            &published::CORRELATION_INTERPOLATION,
+        )
+        && print_table(b"signal_interpolation", &published::SIGNAL_INTERPOLATION)
+        && print_table(b"numerator_8000", &published::NUMERATOR_8000)
+        && print_table(b"denominator_8000", &published::DENOMINATOR_8000)
+        && print_table(b"numerator_16000", &published::NUMERATOR_16000)
+        && print_table(b"denominator_16000", &published::DENOMINATOR_16000)
+        && print_table(b"numerator_24000", &published::NUMERATOR_24000)
+        && print_table(b"denominator_24000", &published::DENOMINATOR_24000)
+        && print_table(b"numerator_32000", &published::NUMERATOR_32000)
+        && print_table(b"denominator_32000", &published::DENOMINATOR_32000)
+        && print_table(b"numerator_48000", &published::NUMERATOR_48000)
+        && print_table(b"denominator_48000", &published::DENOMINATOR_48000);
 }

@@ -146,7 +146,7 @@ fn report(count: u64, sum: u64) {
     io::print_decimal(STDOUT_FILENO, count);
     io::write_all(STDOUT_FILENO, b" checksum ");
     io::print_decimal(STDOUT_FILENO, sum);
-    io::write_all(STDOUT_FILENO, b"\n");
+    outcome::write_out(b"\n");
 }
 
 fn main() {
@@ -161,5 +161,6 @@ fn main() {
         report(PATTERNS, run(Inputs::From(0), PATTERNS, EVERY_SAMPLE));
     } else {
         io::write_all(STDERR_FILENO, b"usage: root_run spread | whole | every\n");
+        outcome::failed();
     }
 }

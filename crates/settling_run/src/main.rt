@@ -70,7 +70,8 @@ fn differing(a: &[f32; 80], b: &[f32; 80]) -> u64 {
     n
 }
 
-fn report(duration: u32, inactive: usize, settled: bool, differ: u64) {
+// Writes a line, and answers whether it could.
+fn report(duration: u32, inactive: usize, settled: bool, differ: u64) -> bool {
     io::print_decimal(STDOUT_FILENO, duration as u64);
     io::write_all(STDOUT_FILENO, b" us, inactive frames ");
     io::print_decimal(STDOUT_FILENO, inactive as u64);
@@ -80,11 +81,11 @@ fn report(duration: u32, inactive: usize, settled: bool, differ: u64) {
         io::write_all(STDOUT_FILENO, b": settled no, samples that differ ");
     }
     io::print_decimal(STDOUT_FILENO, differ);
-    io::write_all(STDOUT_FILENO, b"\n");
+    outcome::write_out(b"\n")
 }
 
 // The outputs of an equal active frame after so many equal inactive ones.
-fn compare(duration: u32, nf: usize, active: usize, inactive: usize)
+fn compare(duration: u32, nf: usize, active: usize, inactive: usize) -> bool
     requires { ⌜ nf ≤ 80 ⌝ }
 {
     let a = prepared(duration, nf, 1.0, active, inactive);
@@ -93,13 +94,13 @@ fn compare(duration: u32, nf: usize, active: usize, inactive: usize)
     let mut y = [1.0; 80];
     step(a, true, nf, &mut x);
     step(b, true, nf, &mut y);
-    report(duration, inactive, a.settled, differing(&x, &y));
+    report(duration, inactive, a.settled, differing(&x, &y))
 }
 
 fn main() {
-    compare(10000, 80, 1, 2);
-    compare(10000, 80, 1, 3);
-    compare(7500, 60, 2, 2);
-    compare(7500, 60, 2, 3);
-    compare(7500, 60, 2, 4);
+    let _is_written = compare(10000, 80, 1, 2)
+        && compare(10000, 80, 1, 3)
+        && compare(7500, 60, 2, 2)
+        && compare(7500, 60, 2, 3)
+        && compare(7500, 60, 2, 4);
 }

@@ -2,12 +2,12 @@
 use crate::numbers::of_four;
 use crate::numbers::signed_of_two;
 use floats::bits::float_of;
-ghost use Prim.Native.Nat.{ℕ, _≤_, _<_};
+ghost use Prim.Native.Nat.{_≤_};
+ghost use mathlib.Core.Bool.{true};
 ghost use mathlib.Core.Path.{_≡_};
-ghost use lib.Ieee.{binary32, ofBits};
-ghost use lib.IntN.{pos};
-ghost use lib.ListN.{length, getD};
+ghost use lib.ListN.{length};
 ghost use Rattle.vectors.specs.Numbers.{floatAt, signedAt};
+ghost use Rattle.vectors.specs.Parts.{filled, noFloats, FloatsRead, SamplesRead};
 
 // The most numbers that a part may have.
 const MOST: usize = 512;
@@ -24,15 +24,17 @@ pub struct Samples {
     pub count: usize,
 }
 
-// Fills all of bytes.
-pub fn read_bytes(fd: i32, bytes: &mut [u8]) -> bool {
+// Fills all of bytes, or answers that there were too few.
+pub fn read_bytes(fd: i32, bytes: &mut [u8]) -> bool
+    ensures { λ r. ⌜ (length (now (bytes .entry)) ≡ 0 → r ≡ true) ⌝ }
+{
     io::read_full(fd, bytes) == bytes.len()
 }
 
 // Stores the floats that bytes stand for.
 fn put_floats(bytes: &[u8; 4096], count: usize, values: &mut [f32])
     requires { ⌜ (count ≤ 512) × (count ≤ length (now values)) ⌝ }
-    ensures { λ _. ⌜ ((k : ℕ) → k < count → getD (now (values .exit)) k (ofBits binary32 0) ≡ floatAt (now (bytes .entry)) k) ⌝ }
+    ensures { λ _. ⌜ now (values .exit) ≡ filled (floatAt (now (bytes .entry))) count (now (values .entry)) ⌝ }
 {
     let mut i = 0;
     while i < count {
@@ -43,7 +45,9 @@ fn put_floats(bytes: &[u8; 4096], count: usize, values: &mut [f32])
 }
 
 // No floats.
-pub fn none() -> Floats {
+pub fn none() -> Floats
+    ensures { λ r. ⌜ r ≡ noFloats ⌝ }
+{
     let values = [0.0; 512];
     Floats {
         whole: false,
@@ -53,7 +57,9 @@ pub fn none() -> Floats {
 }
 
 // Reads count floats, at most 512.
-pub fn read_floats(fd: i32, count: usize) -> Floats {
+pub fn read_floats(fd: i32, count: usize) -> Floats
+    ensures { λ r. ⌜ FloatsRead count r ⌝ }
+{
     if count > MOST {
         return none();
     }
@@ -72,7 +78,7 @@ pub fn read_floats(fd: i32, count: usize) -> Floats {
 // Stores the samples that bytes stand for.
 fn put_samples(bytes: &[u8; 4096], count: usize, values: &mut [i16])
     requires { ⌜ (count ≤ 512) × (count ≤ length (now values)) ⌝ }
-    ensures { λ _. ⌜ ((k : ℕ) → k < count → getD (now (values .exit)) k (pos 0) ≡ signedAt (now (bytes .entry)) k) ⌝ }
+    ensures { λ _. ⌜ now (values .exit) ≡ filled (signedAt (now (bytes .entry))) count (now (values .entry)) ⌝ }
 {
     let mut i = 0;
     while i < count {
@@ -83,7 +89,9 @@ fn put_samples(bytes: &[u8; 4096], count: usize, values: &mut [i16])
 }
 
 // Reads count signed samples, at most 512.
-pub fn read_samples(fd: i32, count: usize) -> Samples {
+pub fn read_samples(fd: i32, count: usize) -> Samples
+    ensures { λ r. ⌜ SamplesRead count r ⌝ }
+{
     let mut values = [0i16; 512];
     if count > MOST {
         return Samples {

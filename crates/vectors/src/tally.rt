@@ -157,20 +157,24 @@ impl Tally {
         self.differs()
     }
 
-    // The counts, on a line.
+    // The counts, on a line. A difference is a failure, and so is a line that cannot be written.
     pub fn print_counts(self) {
         print_count(STDOUT_FILENO, b"calls ", self.calls);
         print_count(STDOUT_FILENO, b" frames ", self.frames);
         print_count(STDOUT_FILENO, b" differences ", self.differences);
-        io::write_all(STDOUT_FILENO, b"\n");
+        outcome::write_out(b"\n");
+        if self.differences > 0 {
+            outcome::failed();
+        }
     }
 
-    // Says on standard error why the rest of a file is not compared.
+    // Says on standard error why the rest of a file is not compared, which is a failure.
     pub fn print_stop(self, why: &[u8]) {
         io::write_all(STDERR_FILENO, b"after ");
         self.print_call(STDERR_FILENO);
         io::write_all(STDERR_FILENO, b": ");
         io::write_all(STDERR_FILENO, why);
         io::write_all(STDERR_FILENO, b"\n");
+        outcome::failed();
     }
 }

@@ -21,6 +21,9 @@ slice-aggregate-write-all c = search needs
 write-all-requires : tie.Need-write-all-requires Inv-loop μ-loop
 write-all-requires c κs = search needs
 
+failed-requires : tie.Need-failed-requires Inv-loop μ-loop
+failed-requires c κs = search needs
+
 buffer-requires : tie.Need-buffer-requires Inv-loop μ-loop
 buffer-requires c κs = search needs
 
@@ -63,6 +66,7 @@ main-spec =
     arg-count-requires
     slice-aggregate-write-all
     write-all-requires
+    failed-requires
     buffer-requires
     loop-holds
     slice-aggregate-arg

@@ -7,10 +7,10 @@ use Rattle.published_run.proofs.print_table.Statement.{statement}
 use Rattle.published_run.proofs.print_table.Tie as tie
 
 abbrev Inv-loop : tie.InvT-loop
-Inv-loop name table i₀ t6 i-end i = (i ≤ i-end) × (i-end ≡ length table)
+Inv-loop name table i₀ i-end i = (i ≤ i-end) × (i-end ≡ length table)
 
 abbrev μ-loop : tie.MeasureT-loop
-μ-loop name table i₀ t6 i-end i = i-end - i
+μ-loop name table i₀ i-end i = i-end - i
 
 write-all-requires : tie.Need-write-all-requires Inv-loop μ-loop
 write-all-requires c κs = search needs
@@ -33,26 +33,17 @@ write-all-requires-3 c κs = search needs
 loop-holds : tie.Need-loop-holds Inv-loop μ-loop
 loop-holds c = search needs
 
-mul-bits-of : tie.Need-mul-bits-of Inv-loop μ-loop
-mul-bits-of c = search needs
+mul-print-bits : tie.Need-mul-print-bits Inv-loop μ-loop
+mul-print-bits c = search needs
 
-shared-slice-read-bits-of : tie.Need-shared-slice-read-bits-of Inv-loop μ-loop
-shared-slice-read-bits-of c = search needs
+shared-slice-read-print-bits : tie.Need-shared-slice-read-print-bits Inv-loop μ-loop
+shared-slice-read-print-bits c = search needs
 
-bits-of-requires : tie.Need-bits-of-requires Inv-loop μ-loop
-bits-of-requires c κs = search needs
+print-bits-requires : tie.Need-print-bits-requires Inv-loop μ-loop
+print-bits-requires c κs = search needs
 
-cast-print-hex : tie.Need-cast-print-hex Inv-loop μ-loop
-cast-print-hex c = search needs
-
-print-hex-requires : tie.Need-print-hex-requires Inv-loop μ-loop
-print-hex-requires c κs = search needs
-
-slice-aggregate-write-all-3 : tie.Need-slice-aggregate-write-all-3 Inv-loop μ-loop
-slice-aggregate-write-all-3 c = search needs
-
-write-all-requires-4 : tie.Need-write-all-requires-4 Inv-loop μ-loop
-write-all-requires-4 c κs = search needs
+returns : tie.Need-returns Inv-loop μ-loop
+returns c = search needs
 
 add-i : tie.Need-add-i Inv-loop μ-loop
 add-i c = search needs
@@ -63,8 +54,8 @@ loop-less c = search needs
 loop-again : tie.Need-loop-again Inv-loop μ-loop
 loop-again c = search needs
 
-returns : tie.Need-returns Inv-loop μ-loop
-returns c = search needs
+returns-2 : tie.Need-returns-2 Inv-loop μ-loop
+returns-2 c = search needs
 
 pub print-table-spec : {M : Type 1} → statement M
 print-table-spec =
@@ -79,14 +70,11 @@ print-table-spec =
     slice-aggregate-write-all-2
     write-all-requires-3
     loop-holds
-    mul-bits-of
-    shared-slice-read-bits-of
-    bits-of-requires
-    cast-print-hex
-    print-hex-requires
-    slice-aggregate-write-all-3
-    write-all-requires-4
+    mul-print-bits
+    shared-slice-read-print-bits
+    print-bits-requires
+    returns
     add-i
     loop-less
     loop-again
-    returns)
+    returns-2)

@@ -1,6 +1,4 @@
 -- `decoder_after` puts each part of the past in its place.
-use native.Mathlib.Omega.{arith}
-use lib.ListN.{length-take}
 use lib.Ieee.{ofBits}
 use borrow.Author.Needs.{needs}
 use Rattle.appendix_c.proofs.cases.decoder_after.Statement.{statement}
@@ -13,7 +11,7 @@ first-requires : tie.Need-first-requires
 first-requires c κs = search needs
 
 put-requires : tie.Need-put-requires
-put-requires c κs = rw (c .first .ensures, length-take) (omega arith)
+put-requires c κs = search needs
 
 slice-aggregate-put-2 : tie.Need-slice-aggregate-put-2
 slice-aggregate-put-2 c = search needs
@@ -22,7 +20,7 @@ first-requires-2 : tie.Need-first-requires-2
 first-requires-2 c κs = search needs
 
 put-requires-2 : tie.Need-put-requires-2
-put-requires-2 c κs = rw (c .first2 .ensures, length-take) (omega arith)
+put-requires-2 c κs = search needs
 
 slice-aggregate-put-3 : tie.Need-slice-aggregate-put-3
 slice-aggregate-put-3 c = search needs
@@ -31,7 +29,7 @@ first-requires-3 : tie.Need-first-requires-3
 first-requires-3 c κs = search needs
 
 put-requires-3 : tie.Need-put-requires-3
-put-requires-3 c κs = rw (c .first3 .ensures, length-take) (omega arith)
+put-requires-3 c κs = search needs
 
 slice-aggregate-put-4 : tie.Need-slice-aggregate-put-4
 slice-aggregate-put-4 c = search needs
@@ -40,7 +38,7 @@ first-requires-4 : tie.Need-first-requires-4
 first-requires-4 c κs = search needs
 
 put-requires-4 : tie.Need-put-requires-4
-put-requires-4 c κs = rw (c .first4 .ensures, length-take) (omega arith)
+put-requires-4 c κs = search needs
 
 lag-before-requires : tie.Need-lag-before-requires
 lag-before-requires c κs = search needs

@@ -9,7 +9,7 @@ use borrow.Author.Needs.{needs}
 use borrow.Author.Tests.{eq-eqb, ne-eqb}
 use lib.ListN.{drop, getD, length}
 use lib.Seq.{drop-cons, drop-length}
-use Rattle.lines.specs.Fields.{tabAt}
+use Rattle.lines.specs.Fields.{byteAt, tabAt}
 use Rattle.lines.proofs.field.first_tab.Statement.{statement}
 use Rattle.lines.proofs.field.first_tab.Tie as tie
 
@@ -21,11 +21,11 @@ abbrev μ-loop : tie.MeasureT-loop
 
 -- at byte i: a tab, or one byte further
 here : (s : List ℕ) (i : ℕ) → i < length s → getD s i 0 ≡ 9 → tabAt (drop i s) ≡ 0
-unfolding tabAt
+unfolding byteAt
 here s i h e = rw (drop-cons s i 0, eq-eqb _ _ e)
 
 further : (s : List ℕ) (i : ℕ) → i < length s → (getD s i 0 ≡ 9 → ⊥) → i + tabAt (drop i s) ≡ (i + 1) + tabAt (drop (i + 1) s)
-unfolding tabAt
+unfolding byteAt
 further s i h n = rw (drop-cons s i 0, ne-eqb _ _ n, add-one) (omega arith)
 
 loop-holds : tie.Need-loop-holds Inv-loop μ-loop
@@ -47,7 +47,7 @@ loop-again : tie.Need-loop-again Inv-loop μ-loop
 loop-again c = (search needs, search needs, c .before .before .before .loop .inv .2 ∙ further _ _ (c .before .before .loop-test .taken) (c .if1 .left))
 
 returns-2 : tie.Need-returns-2 Inv-loop μ-loop
-unfolding tabAt
+unfolding byteAt
 returns-2 c =
     let e : c .before .loop .i ≡ length (c .before .before .args .line .now) = omega arith in
     sym (c .before .loop .inv .2 ∙ rw (e, drop-length, add-zero))

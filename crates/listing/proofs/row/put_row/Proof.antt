@@ -1,6 +1,6 @@
--- `put_row` writes the cells of a row, one behind the other.
+-- `put_row` writes the cells of a row, one after the other.
 use native.Mathlib.Omega.{arith}
-use Rattle.lines.proofs.Stores.{written-then, written-length}
+use Rattle.lines.proofs.Stores.{written, written-then}
 use borrow.Author.Needs.{needs}
 use Rattle.listing.proofs.row.put_row.Statement.{statement}
 use Rattle.listing.proofs.row.put_row.Tie as tie
@@ -22,8 +22,8 @@ same-length c = search needs
 
 returns : tie.Need-returns
 returns c = (
-  written-then (written-then (c .before .before .before .before .before .before .before .before .before .before .before .put-cell .ensures .0) (c .before .before .before .before .before .before .before .put-shown .ensures .0))
-      (rw (← c .before .before .before .number .ensures) (c .before .before .put-cell2 .ensures .0)),
+  written-then (written-then (written (c .before .before .before .before .before .before .before .before .before .before .before .put-cell .ensures .0) (omega arith)) (c .before .before .before .before .before .before .before .put-shown .ensures .0))
+      (rw (← c .before .before .before .number .ensures) (written (c .before .before .put-cell2 .ensures .0) (omega arith))),
   omega arith,
 )
 

@@ -1,9 +1,10 @@
 -- `put_floats`: each turn stores the float of the next four bytes.
 use Prim.Native.Nat.{ℕ, _-_, _≤_, _<_}
-use mathlib.Core.Path.{_≡_, _∙_, ap}
+use mathlib.Core.Path.{_≡_, refl, _∙_, ap}
 use native.Mathlib.Omega.{arith}
 use lib.ListN.{length, length-set, getD}
 use Rattle.vectors.specs.Numbers.{floatAt}
+use Rattle.vectors.specs.Parts.{filled}
 use Rattle.vectors.proofs.Filled.{filled-more}
 use borrow.Author.Needs.{needs}
 use lib.Ieee.{binary32, ofBits}
@@ -11,13 +12,14 @@ use Rattle.vectors.proofs.read.put_floats.Statement.{statement}
 use Rattle.vectors.proofs.read.put_floats.Tie as tie
 
 abbrev Inv-loop : tie.InvT-loop
-Inv-loop bytes count values₀ i₀ values i = (i ≤ count) × (length values ≡ length values₀) × ((k : ℕ) → k < i → getD values k (ofBits binary32 0) ≡ floatAt bytes k)
+Inv-loop bytes count values₀ i₀ values i = (i ≤ count) × (length values ≡ length values₀) × (values ≡ filled (floatAt bytes) i values₀)
 
 abbrev μ-loop : tie.MeasureT-loop
 μ-loop bytes count values₀ i₀ values i = count - i
 
 loop-holds : tie.Need-loop-holds Inv-loop μ-loop
-loop-holds c = (search needs, search needs, λ k lt. absurd (omega (arith, lt)))
+unfolding filled
+loop-holds c = (search needs, search needs, refl)
 
 mul-at : tie.Need-mul-at Inv-loop μ-loop
 mul-at c = search needs
@@ -64,14 +66,14 @@ loop-less c = search needs
 loop-again : tie.Need-loop-again Inv-loop μ-loop
 loop-again c =
     let at = c .before .before .before .before .before .before .before .loop in
-    let bytes = c .before .before .before .before .before .before .before .before .before .args .bytes .now in
-    (search needs, simp length-set (search needs), filled-more (floatAt bytes) _ (at .values) (at .i) (c .float-of .result) (omega arith) (at .inv .2) (c .float-of .ensures ∙ ap (ofBits binary32) (c .before .of-four .ensures)))
+    let args = c .before .before .before .before .before .before .before .before .before .args in
+    (search needs, simp length-set (search needs), rw (at .inv .2) (filled-more (floatAt (args .bytes .now)) (args .values .now) (at .i) (c .float-of .result) (ofBits binary32 0) (omega arith) (c .float-of .ensures ∙ ap (ofBits binary32) (c .before .of-four .ensures))))
 
 same-length : tie.Need-same-length Inv-loop μ-loop
 same-length c = search needs
 
 returns : tie.Need-returns Inv-loop μ-loop
-returns c = λ k lt. c .before .loop .inv .2 k (omega (arith, lt))
+returns c = let e : c .before .loop .i ≡ c .before .before .before .args .count = omega arith in rw e at (c .before .loop .inv .2)
 
 pub put-floats-spec : {M : Type 1} → statement M
 put-floats-spec =

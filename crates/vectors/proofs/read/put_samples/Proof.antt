@@ -1,9 +1,10 @@
 -- `put_samples`: each turn stores the number of the next two bytes.
 use Prim.Native.Nat.{ℕ, _-_, _≤_, _<_}
-use mathlib.Core.Path.{_≡_, _∙_}
+use mathlib.Core.Path.{_≡_, refl, _∙_}
 use native.Mathlib.Omega.{arith}
 use lib.ListN.{length, length-set, getD}
 use Rattle.vectors.specs.Numbers.{signedAt}
+use Rattle.vectors.specs.Parts.{filled}
 use Rattle.vectors.proofs.Filled.{filled-more}
 use mir.Syntax.{w16}
 use mir.Val.{toZ, ofZ}
@@ -14,13 +15,14 @@ use Rattle.vectors.proofs.read.put_samples.Statement.{statement}
 use Rattle.vectors.proofs.read.put_samples.Tie as tie
 
 abbrev Inv-loop : tie.InvT-loop
-Inv-loop bytes count values₀ i₀ values i = (i ≤ count) × (length values ≡ length values₀) × ((k : ℕ) → k < i → getD values k (pos 0) ≡ signedAt bytes k)
+Inv-loop bytes count values₀ i₀ values i = (i ≤ count) × (length values ≡ length values₀) × (values ≡ filled (signedAt bytes) i values₀)
 
 abbrev μ-loop : tie.MeasureT-loop
 μ-loop bytes count values₀ i₀ values i = count - i
 
 loop-holds : tie.Need-loop-holds Inv-loop μ-loop
-loop-holds c = (search needs, search needs, λ k lt. absurd (omega (arith, lt)))
+unfolding filled
+loop-holds c = (search needs, search needs, refl)
 
 mul-at : tie.Need-mul-at Inv-loop μ-loop
 mul-at c = search needs
@@ -52,15 +54,15 @@ loop-less c = search needs
 loop-again : tie.Need-loop-again Inv-loop μ-loop
 loop-again c =
     let at = c .before .before .before .before .loop in
-    let bytes = c .before .before .before .before .before .args .bytes .now in
+    let args = c .before .before .before .before .before .args in
     let stored = c .signed-of-two .result in
-    (search needs, simp length-set (search needs), filled-more (signedAt bytes) _ (at .values) (at .i) (toZ w16 (ofZ w16 stored)) (omega arith) (at .inv .2) (toZ-ofZ w16 stored (search needs) ∙ c .signed-of-two .ensures))
+    (search needs, simp length-set (search needs), rw (at .inv .2) (filled-more (signedAt (args .bytes .now)) (args .values .now) (at .i) (toZ w16 (ofZ w16 stored)) (pos 0) (omega arith) (toZ-ofZ w16 stored (search needs) ∙ c .signed-of-two .ensures)))
 
 same-length : tie.Need-same-length Inv-loop μ-loop
 same-length c = search needs
 
 returns : tie.Need-returns Inv-loop μ-loop
-returns c = λ k lt. c .before .loop .inv .2 k (omega (arith, lt))
+returns c = let e : c .before .loop .i ≡ c .before .before .args .count = omega arith in rw e at (c .before .loop .inv .2)
 
 pub put-samples-spec : {M : Type 1} → statement M
 put-samples-spec =

@@ -2,14 +2,14 @@
 use mathlib.Core.Path.{refl}
 use borrow.Author.Tests.{eq-eqb, ne-eqb}
 use Rattle.lines.specs.Texts.{Written}
-use Rattle.listing.specs.Machine.{lastText}
+use Rattle.lines.specs.Machine.{lastText}
 use borrow.Author.Needs.{needs}
 use Rattle.listing.proofs.machine.Listing.finish.Statement.{statement}
 use Rattle.listing.proofs.machine.Listing.finish.Tie as tie
 
 returns : tie.Need-returns
 unfolding lastText
-returns c = rw (eq-eqb _ _ (c .if1 .taken)) (record { stored = refl; behind = refl }, search needs)
+returns c = rw (eq-eqb _ _ (c .if1 .taken)) (record { stored = refl; ends = refl }, search needs)
 
 put-held-requires : tie.Need-put-held-requires
 put-held-requires c κs = search needs

@@ -1,0 +1,86 @@
+-- The bytes of a listing in two runs: what the machine does to them one after the other is what it does to both as one.
+use Prim.Native.Nat.{ℕ, suc, _+_, _-_, _≤_, _<_}
+use mathlib.Core.Path.{_≡_, refl, sym, ap, _∙_}
+use mathlib.Core.Bool.{Bool, true, false, cond}
+use mathlib.Core.List.{List, [], _∷_, _++_, append-assoc, append-nil}
+use native.Mathlib.Nat.{zero-add, sub-zero}
+use native.Mathlib.Numerals.{add-one}
+use native.Mathlib.Omega.{arith}
+use borrow.Author.Tests.{lt-ltb, le-ltb}
+use lib.Dec.{eqb, ltb}
+use lib.ListN.{length, take, drop, getD}
+use lib.Seq.{take-suc, drop-cons}
+use Rattle.lines.specs.Fields.{byteAt}
+use Rattle.lines.specs.Listings.{Rules}
+use Rattle.lines.specs.Machine.{emptied, heldLine, heldStep, heldAfter, stateStep, emitted, stateAfter, text, taken}
+use Rattle.lines.specs.declared.held.Held.{Held}
+
+pub held-append : (h : Held) (a b : List ℕ) → heldAfter h (a ++ b) ≡ heldAfter (heldAfter h a) b
+unfolding heldAfter
+held-append h [] b = refl
+held-append h (x ∷ a) b = held-append (heldStep h x) a b
+
+module _ (L : Rules) where
+  pub state-append : (s : L .State) (h : Held) (a b : List ℕ) →
+      stateAfter L s h (a ++ b) ≡ stateAfter L (stateAfter L s h a) (heldAfter h a) b
+  unfolding stateAfter heldAfter
+  state-append s h [] b = refl
+  state-append s h (x ∷ a) b = state-append (stateStep L s h x) (heldStep h x) a b
+
+  pub text-append : (s : L .State) (h : Held) (a b : List ℕ) →
+      text L s h (a ++ b) ≡ text L s h a ++ text L (stateAfter L s h a) (heldAfter h a) b
+  unfolding stateAfter heldAfter text
+  text-append s h [] b = refl
+  text-append s h (x ∷ a) b = rw (text-append (stateStep L s h x) (heldStep h x) a b, append-assoc)
+
+  -- where less space is left than a row may need nothing is taken; where there is enough, at least one byte is
+  pub taken-none : (s : L .State) (h : Held) (bs : List ℕ) (room : ℕ) → room < L .space → taken L s h bs room ≡ 0
+  unfolding taken
+  taken-none s h [] room r = refl
+  taken-none s h (b ∷ bs) room r = rw (lt-ltb room (L .space) r)
+
+  pub progress : (s : L .State) (h : Held) (bs : List ℕ) (room : ℕ) → 0 < length bs → L .space ≤ room → 0 < taken L s h bs room
+  unfolding taken
+  progress s h [] room l r = absurd (omega arith)
+  progress s h (b ∷ bs) room l r = rw (le-ltb room (L .space) r) (omega arith)
+
+  pub taken-fits : (s : L .State) (h : Held) (bs : List ℕ) (room : ℕ) → taken L s h bs room ≤ length bs
+  unfolding taken
+  taken-fits s h [] room = omega arith
+  taken-fits s h (b ∷ bs) room = go (ltb room (L .space)) (taken-fits (stateStep L s h b) (heldStep h b) bs (room - length (emitted L s h b)))
+    where
+      go : (t : Bool) {n : ℕ} → n ≤ length bs → cond t 0 (suc n) ≤ suc (length bs)
+      go true l = omega arith
+      go false l = omega arith
+
+  -- a byte that is no newline moves no state and writes nothing
+  still : (s : L .State) (h : Held) (b : ℕ) → eqb b 10 ≡ false → stateStep L s h b ≡ s
+  unfolding stateStep
+  still s h b e = rw e
+
+  silent : (s : L .State) (h : Held) (b : ℕ) → eqb b 10 ≡ false → emitted L s h b ≡ []
+  unfolding emitted
+  silent s h b e = rw e
+
+  -- The bytes before a newline only change what is held. Here `k` is how many they are.
+  pub record Line (s : L .State) (h : Held) (bs : List ℕ) (k room : ℕ) : Type 0 where
+    pub within : k ≤ length bs
+    pub state : stateAfter L s h (take k bs) ≡ s
+    pub silent : text L s h (take k bs) ≡ []
+    pub counted : taken L s h bs room ≡ k + taken L s (heldAfter h (take k bs)) (drop k bs) room
+
+  pub line : (s : L .State) (h : Held) (bs : List ℕ) (room : ℕ) → L .space ≤ room → Line s h bs (byteAt 10 bs) room
+  unfolding byteAt stateAfter text taken heldAfter
+  line s h [] room r = record { within = omega arith; state = refl; silent = refl; counted = refl }
+  line s h (b ∷ bs) room r = go (eqb b 10) refl (λ h′. line s h′ bs room r)
+    where
+      go : (t : Bool) → eqb b 10 ≡ t → ((h′ : Held) → Line s h′ bs (byteAt 10 bs) room) → Line s h (b ∷ bs) (cond t 0 (suc (byteAt 10 bs))) room
+      go true e rest = record { within = omega arith; state = refl; silent = refl; counted = sym (zero-add _) }
+      go false e rest =
+          let i = rest (heldStep h b) in
+          record {
+            within = omega (arith, i .within);
+            state = ap (λ (x : L .State). stateAfter L x (heldStep h b) (take (byteAt 10 bs) bs)) (still s h b e) ∙ i .state;
+            silent = rw (still s h b e, silent s h b e) (i .silent);
+            counted = rw (le-ltb room (L .space) r, still s h b e, silent s h b e, sub-zero, i .counted) (omega arith);
+          }
