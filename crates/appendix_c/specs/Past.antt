@@ -25,15 +25,17 @@ lagBefore active index = cond active (lagAtRate (unscaledOf index)) noLag
 -- the oldest block starts both rings: the older inputs are not published, and are 0.0
 abbrev pub decoderAfter : Past → Decoder
 decoderAfter past = record {
-  rate = 16000;
-  duration = 10000;
-  «ltpf_active_prev» = past .active;
+  registers = record {
+    rate = 16000;
+    duration = 10000;
+    «ltpf_active_prev» = past .active;
+    «c_num» = placed (replicate 11 0·0) 0 (take 3 (past .«c_n» .values));
+    «c_den» = placed (replicate 13 0·0) 1 (take 4 (past .«c_d» .values));
+    lag = lagBefore (past .active) (past .index);
+    run = 0;
+    settled = false;
+  };
   «block_start_index» = 0;
-  «c_num» = placed (replicate 11 0·0) 0 (take 3 (past .«c_n» .values));
-  «c_den» = placed (replicate 13 0·0) 1 (take 4 (past .«c_d» .values));
-  lag = lagBefore (past .active) (past .index);
   «x_hat_mem» = placed (replicate 1080 0·0) 160 (take 160 (past .x .values));
   «x_hat_ltpf_mem» = placed (replicate 1080 0·0) 0 (take 320 (past .prev .values));
-  run = 0;
-  settled = false;
 }

@@ -4,6 +4,8 @@ use crate::near::COEFFICIENT;
 use crate::near::OUTPUT;
 use crate::tally::Place;
 use crate::tally::Tally;
+use control::judge::SideInfo;
+use control::registers::Registers;
 use decoder::frame::Framed;
 use decoder::frame::frame;
 use decoder::state::Decoder;
@@ -134,18 +136,21 @@ fn decoder_after(past: Past) -> Decoder
     put(&mut x_hat_mem, 160, first(&x, 160));
     let mut x_hat_ltpf_mem = [0.0; 1080];
     put(&mut x_hat_ltpf_mem, 0, first(&prev, 320));
-    Decoder {
+    let registers = Registers {
         rate: RATE,
         duration: DURATION,
         ltpf_active_prev: past.active,
-        block_start_index: 0,
         c_num,
         c_den,
         lag: lag_before(past.active, past.index),
-        x_hat_mem,
-        x_hat_ltpf_mem,
         run: 0,
         settled: false,
+    };
+    Decoder {
+        registers,
+        block_start_index: 0,
+        x_hat_mem,
+        x_hat_ltpf_mem,
     }
 }
 
@@ -173,8 +178,9 @@ fn compare_all(tally: Tally, given: Given, decoder: Decoder, outputs: &[f32; 512
     let c_n = numerators.values;
     let c_d = denominators.values;
     let trans = published.values;
-    let c_num = decoder.c_num;
-    let c_den = decoder.c_den;
+    let registers = decoder.registers;
+    let c_num = registers.c_num;
+    let c_den = registers.c_den;
     let compared = tally.floats(b"c_n", first(&c_n, 3), numerator(&c_num), COEFFICIENT);
     let further = compared.floats(b"c_d", first(&c_d, 4), denominator(&c_den), COEFFICIENT);
     further.floats(b"trans", first(&trans, 160), first(outputs, 160), OUTPUT)
@@ -187,14 +193,13 @@ struct Made {
 }
 
 // Decodes the frame with the published rows.
-fn decode(before: Decoder, pitch: PitchRecord, nbits: u32, inputs: [f32; 512]) -> Made {
+fn decode(before: Decoder, side: SideInfo, inputs: [f32; 512]) -> Made {
     let mut samples = inputs;
     let framed = frame(
         before,
         &NUMERATOR_16000,
         &DENOMINATOR_16000,
-        pitch,
-        nbits,
+        side,
         first_mut(&mut samples, 160),
     );
     Made { framed, samples }
@@ -213,9 +218,13 @@ pub(crate) fn compare_case(fd: i32, tally: Tally) -> Tally {
         index: given.index,
         active: given.active,
     });
+    let side = SideInfo {
+        pitch,
+        nbits: given.nbits,
+    };
     let inputs = given.x;
     let x = inputs.values;
-    let made = decode(decoder_after(past), pitch, given.nbits, x);
+    let made = decode(decoder_after(past), side, x);
     let framed = made.framed;
     let answer = framed.answer;
     if number(answer) != 0 {

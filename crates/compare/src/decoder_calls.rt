@@ -4,6 +4,7 @@ use crate::set::Set;
 use crate::state::Run;
 use crate::state::broken;
 use crate::state::unknown;
+use control::judge::SideInfo;
 use decoder::frame::Framed;
 use decoder::frame::frame;
 use decoder::frame::lost;
@@ -106,8 +107,7 @@ fn decode(
     count: usize,
     numerators: &[f32],
     denominators: &[f32],
-    pitch: PitchRecord,
-    nbits: u32,
+    side: SideInfo,
     decoder: Decoder,
 ) -> Made {
     let mut samples = given;
@@ -115,8 +115,7 @@ fn decode(
         decoder,
         numerators,
         denominators,
-        pitch,
-        nbits,
+        side,
         first_mut(&mut samples, count),
     );
     Made { framed, samples }
@@ -137,8 +136,7 @@ fn make(set: Set, given: Floats, head: &[u8; 12], decoder: Decoder) -> Made {
         given.count,
         first(&numerators, first_table.count),
         first(&denominators, second_table.count),
-        pitch,
-        nbits,
+        SideInfo { pitch, nbits },
         decoder,
     )
 }

@@ -55,12 +55,12 @@ module _ {t : Transition} {old new : Taps} {c : Lc3Config} {start : ℕ} {xs ys 
       }
 
   -- the outputs of the frame are what lies after the past
-  pub behind : (out : List Float) →
+  pub frame-outputs : (out : List Float) →
       out ≡ outputs t old new (c .fs .fade) (late (c .history - 16) (drop (c .history - 16) (straight xs (c .history) start ++ frame)))
       (take (c .history) (straight ys (c .history) start ++ frame)) →
       drop (c .history) out ≡ filtered t old new c start xs ys frame
   unfolding filtered
-  behind out e =
+  frame-outputs out e =
       let x = straight xs (c .history) start ++ frame in
       rw (
         e,

@@ -40,7 +40,7 @@ append-alike from a b c d h s e =
       rest = rw (drop-append-le from a c h, drop-append-le from b d (omega (arith, s .long)), s .rest, e);
     }
 
--- the filter reads no more than the last samples, so it gives the same behind lines that are alike there
+-- the filter reads no more than the last samples, so it gives the same after lines that are alike there
 pub numSum-alike : (num x x′ : List Float) (from i k : ℕ) → from + k ≤ i + 1 → Alike from x x′ → numSum num x i k ≡ numSum num x′ i k
 unfolding numSum
 numSum-alike num x x′ from i zero h s = refl
@@ -96,7 +96,7 @@ module _ (from reach fade : ℕ) (x x′ p p′ : List Float) (h : from + reach 
       rw (← sx .long, ← e) (grow-alike _ _ (length p) from y y′ (length x - m) (omega arith) l
       (λ u v k w. steady-alike t reach from i x x′ sx u v (omega arith) w) s)
 
-  -- the outputs of each case, behind pasts that are alike as far as its filters reach
+  -- the outputs of each case, after pasts that are alike as far as its filters reach
   pub outputs-alike : (t : Transition) (old new : Taps) → Readable t old new reach → Alike from (outputs t old new fade x p) (outputs t old new fade x′ p′)
   unfolding outputs caseActivated caseDeactivated casePitchKept casePitchChanged
   outputs-alike Inactive old new r =

@@ -34,7 +34,7 @@ part-aside y z from to k e h l p =
     (sym (ap length same ∙ length-take-le k (drop from y) (simp length-drop (omega arith))), same)
 
 module _ (fade history : ℕ) (x y : List Float) (l : Lines fade history x y) where
-  -- the inputs as the definitions have them, behind the whole of their past
+  -- the inputs as the definitions have them, after the whole of their past
   abbrev full : List Float
   full = late (history - 16) x
 

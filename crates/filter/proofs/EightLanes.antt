@@ -20,7 +20,7 @@ use Rattle.filter.specs.Required.{Inside}
 use Rattle.filter.specs.declared.coefficients.Taps.{Taps}
 use Rattle.filter.specs.declared.fade.Direction.{Direction}
 use Rattle.filter.specs.declared.fade.Run.{Run}
-use Rattle.filter.proofs.Growing.{length-outputs, length-grown, take-grow, take-made, grown-behind}
+use Rattle.filter.proofs.Growing.{length-outputs, length-grown, take-grow, take-made, grown-after}
 use Rattle.filter.proofs.Reading.{F-take}
 use Rattle.filter.proofs.Late.{at-late}
 
@@ -157,7 +157,7 @@ module _ (t : Taps) (history : ℕ) (u : Usable t history) (x : List Float) (n :
     unfolding listed
     block s lanes =
         placed-stored (grown f y first k) (listed s) (history + n) (omega (arith, length-grown f y first k (omega arith)))
-        ∙ rw (← e) (grown-behind f y first m k (listed s) mk km h (by-lanes s (λ j. f (grow f (take first y) (m + j))) lanes))
+        ∙ rw (← e) (grown-after f y first m k (listed s) mk km h (by-lanes s (λ j. f (grow f (take first y) (m + j))) lanes))
 
   -- a block of a run
   pub run-made : (run : Run) (fade : ℕ) (y : List Float) (first m k : ℕ) → first + m ≡ history + n → m ≤ k → k ≤ m + 8 → first + (m + 8) ≤ length y →

@@ -1,4 +1,4 @@
--- Lists that grow at their end: one store behind what is made so far, a run of outputs, and a block of them.
+-- Lists that grow at their end: one store after what is made so far, a run of outputs, and a block of them.
 use Prim.Native.Nat.{ℕ, zero, suc, _+_, _-_, _≤_, _<_}
 use mathlib.Core.Path.{_≡_, sym, _∙_, ap}
 use mathlib.Core.List.{List, [], _∷_, _++_, append-nil}
@@ -12,9 +12,9 @@ use Rattle.slices.specs.Slices.{stored}
 use Rattle.filter.specs.Fade.{grow, grown}
 
 -- a store at the end of what is made lengthens it by one and takes one off the rest
-pub store-behind : (made l : List Float) (k : ℕ) (v : Float) → length made ≡ k → k < length l →
+pub store-next : (made l : List Float) (k : ℕ) (v : Float) → length made ≡ k → k < length l →
     set (made ++ drop k l) k v ≡ made ++ (v ∷ []) ++ drop (suc k) l
-store-behind made l k v e h = rw (drop-cons l k nan h, set-at made _ (drop (suc k) l) v k e, append-snoc)
+store-next made l k v e h = rw (drop-cons l k nan h, set-at made _ (drop (suc k) l) v k e, append-snoc)
 
 pub length-grow : (f : List Float → Float) (ys : List Float) (n : ℕ) → length (grow f ys n) ≡ length ys + n
 unfolding grow
@@ -31,17 +31,17 @@ take-more f ys m (suc n) k e =
 pub take-grow : (f : List Float → Float) (ys : List Float) (m n k : ℕ) → m ≤ n → length ys + m ≡ k → take k (grow f ys n) ≡ grow f ys m
 take-grow f ys m n k l e = let s : n ≡ m + (n - m) = omega arith in rw s (take-more f ys m (n - m) k e)
 
--- values that are the next outputs, put behind outputs
-grow-behind : (f : List Float → Float) (ys : List Float) (m : ℕ) (vs : List Float) →
+-- values that are the next outputs, put after outputs
+grow-after : (f : List Float → Float) (ys : List Float) (m : ℕ) (vs : List Float) →
     ((j : ℕ) → j < length vs → at vs j ≡ f (grow f ys (m + j))) → grow f ys m ++ vs ≡ grow f ys (m + length vs)
 unfolding grow
-grow-behind f ys m [] h = append-nil (grow f ys m) ∙ rw add-zero
-grow-behind f ys m (v ∷ vs) h =
+grow-after f ys m [] h = append-nil (grow f ys m) ∙ rw add-zero
+grow-after f ys m (v ∷ vs) h =
     let first : v ≡ f (grow f ys m) = h 0 (omega arith) ∙ rw add-zero in
     let all : suc m + length vs ≡ m + length (v ∷ vs) = omega arith in
     sym (append-snoc (grow f ys m) v vs)
     ∙ ap (λ (w : Float). grow f ys m ++ (w ∷ []) ++ vs) first
-    ∙ grow-behind f ys (suc m) vs (λ j l. h (suc j) (omega arith) ∙ rw (add-suc m j, suc-add m j))
+    ∙ grow-after f ys (suc m) vs (λ j l. h (suc j) (omega arith) ∙ rw (add-suc m j, suc-add m j))
     ∙ ap (grow f ys) all
 
 module _ (f : List Float → Float) (y : List Float) (from n : ℕ) (h : from + n ≤ length y) where
@@ -67,21 +67,21 @@ module _ (f : List Float → Float) (y : List Float) (from n : ℕ) (h : from + 
   unfolding grow
   before-grown = rw add-zero at (take-made 0 (omega arith))
 
-  -- and what lies behind them
-  behind-grown : (d : ℕ) → drop (from + n + d) (grown f y from n) ≡ drop (from + n + d) y
+  -- and what lies after them
+  after-grown : (d : ℕ) → drop (from + n + d) (grown f y from n) ≡ drop (from + n + d) y
   unfolding grown
-  behind-grown d = rw length-outputs at (drop-append-add (grow f (take from y) n) (drop (from + n) y) d) ∙ drop-drop d (from + n) y
+  after-grown d = rw length-outputs at (drop-append-add (grow f (take from y) n) (drop (from + n) y) d) ∙ drop-drop d (from + n) y
 
 -- a block of next outputs, of which some may be there already, stored over the line
-pub grown-behind : (f : List Float → Float) (y : List Float) (from m n : ℕ) (vs : List Float) → m ≤ n → n ≤ m + length vs →
+pub grown-after : (f : List Float → Float) (y : List Float) (from m n : ℕ) (vs : List Float) → m ≤ n → n ≤ m + length vs →
     from + (m + length vs) ≤ length y → ((j : ℕ) → j < length vs → at vs j ≡ f (grow f (take from y) (m + j))) →
     stored (grown f y from n) (from + m) vs ≡ grown f y from (m + length vs)
 unfolding stored grown
-grown-behind f y from m n vs mn nk h next =
+grown-after f y from m n vs mn nk h next =
     let e : from + m + length vs ≡ from + n + (m + length vs - n) = omega arith in
     let e′ : from + m + length vs ≡ from + (m + length vs) = omega arith in
-    let rest : drop (from + m + length vs) (grown f y from n) ≡ drop (from + m + length vs) y = rw e (behind-grown f y from n (omega arith) (m + length vs - n)) in
-    rw (take-made f y from n (omega arith) m mn, grow-behind f (take from y) m vs next, rest, e′)
+    let rest : drop (from + m + length vs) (grown f y from n) ≡ drop (from + m + length vs) y = rw e (after-grown f y from n (omega arith) (m + length vs - n)) in
+    rw (take-made f y from n (omega arith) m mn, grow-after f (take from y) m vs next, rest, e′)
 
 -- before the first output the line is as it was
 pub grown-none : (f : List Float → Float) (y : List Float) (from : ℕ) → y ≡ grown f y from 0

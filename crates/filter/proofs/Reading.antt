@@ -14,7 +14,7 @@ unfolding denSum
 denSum-take start den y i n zero h = refl
 denSum-take start den y i n (suc k) h = rw (denSum-take start den y i n k h, getD-take n y (i - k) nan (omega arith))
 
--- F reads nothing behind the newest output that it reads
+-- F reads nothing after the newest output that it reads
 pub F-take : (t : Taps) (x y : List Float) (i n : ℕ) → i + t .«l_den» / 2 - t .lag .whole < n → F t x (take n y) i ≡ F t x y i
 unfolding F
 F-take t x y i n h = denSum-take _ _ y _ n (t .«l_den» + 1) h

@@ -1,4 +1,4 @@
--- Runs of outputs behind a straight past. x is the inputs with their past in front, y the outputs so far with theirs.
+-- Runs of outputs after a straight past. x is the inputs with their past in front, y the outputs so far with theirs.
 use Prim.Native.Nat.{ℕ, zero, suc, _+_, _-_}
 use mathlib.Core.List.{List, [], _∷_, _++_}
 use lib.Ieee.{Float}
@@ -14,11 +14,11 @@ unfoldable pub factor : Direction → ℕ → ℕ → Float
 factor In fade n = float n ⊘ float fade
 factor Out fade n = float 1 ⊖ float n ⊘ float fade
 
--- the next output x − F, behind the outputs y
+-- the next output x − F, after the outputs y
 unfoldable pub steady : Taps → List Float → List Float → Float
 steady t x y = at x (length y) ⊖ F t x y (length y)
 
--- the next output of a fade behind a history: x − F·f or x − F·(1 − f)
+-- the next output of a fade after a history: x − F·f or x − F·(1 − f)
 unfoldable pub faded : Direction → ℕ → ℕ → Taps → List Float → List Float → Float
 faded direction history fade t x y = at x (length y) ⊖ F t x y (length y) ⊗ factor direction fade (length y - history)
 

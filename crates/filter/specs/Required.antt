@@ -27,7 +27,7 @@ pub record Inside (t : Taps) (i : ℕ) : Type 0 where
   pub newest : t .«l_den» / 2 + 18 ≤ t .lag .whole
 
 -- the inputs x have 16 samples of their past in front, and the line y of outputs the history; both hold the same frame, and 8 outputs at
--- least are made in the fade and behind it
+-- least are made in the fade and after it
 pub record Lines (fade history : ℕ) (x y : List Float) : Type 0 where
   pub past : 16 ≤ history
   pub fade-least : 8 ≤ fade
@@ -36,7 +36,7 @@ pub record Lines (fade history : ℕ) (x y : List Float) : Type 0 where
   pub same : 16 + length y ≡ history + length x
   pub inputs : drop history y ≡ drop 16 x
 
--- the filters that a case uses can be computed behind a history
+-- the filters that a case uses can be computed after a history
 abbrev pub Readable : Transition → Taps → Taps → ℕ → Type 0
 Readable Inactive old new history = Unit
 Readable Activated old new history = Inside new history

@@ -1,4 +1,4 @@
--- The five cases, over a straight past: x is the inputs, the past in front, and the outputs grow behind their own past.
+-- The five cases, over a straight past: x is the inputs, the past in front, and the outputs grow after their own past.
 use Prim.Native.Nat.{ℕ, _+_, _-_}
 use mathlib.Core.Bool.{Bool, true, false, cond, _&&_}
 use mathlib.Core.List.{List, _++_}
@@ -23,7 +23,7 @@ transitionOf false true old new = Activated
 transitionOf true false old new = Deactivated
 transitionOf true true old new = cond (sameLag old new) ActiveNoPitchChange ActivePitchChanged
 
--- The five cases give the past outputs with this frame's behind them.
+-- The five cases give the past outputs with this frame's after them.
 
 -- 2: y = x − F·f in the fade, then x − F
 unfoldable pub caseActivated : Taps → ℕ → List Float → List Float → List Float

@@ -1,6 +1,7 @@
 // How many inactive frames settle a decoder, by a run at 8000 Hz. Two decoders differ in the samples
 // of their first active frame. Then both are given equal frames: active ones, some inactive ones, and
 // one more active frame, whose outputs are compared.
+use control::judge::SideInfo;
 use decoder::frame::Framed;
 use decoder::frame::frame;
 use decoder::state::Decoder;
@@ -20,12 +21,12 @@ fn step(decoder: Decoder, active: bool, nf: usize, samples: &mut [f32]) -> Frame
     let numerators = [0.0; 12];
     let denominators = [1.0; 20];
     let pitch = PitchRecord::Present(Present { index: 511, active });
+    let side = SideInfo { pitch, nbits: 300 };
     frame(
         decoder,
         &numerators,
         &denominators,
-        pitch,
-        300,
+        side,
         &mut samples[..nf],
     )
 }
@@ -94,7 +95,8 @@ fn compare(duration: u32, nf: usize, active: usize, inactive: usize) -> bool
     let mut y = [1.0; 80];
     step(a, true, nf, &mut x);
     step(b, true, nf, &mut y);
-    report(duration, inactive, a.settled, differing(&x, &y))
+    let registers = a.registers;
+    report(duration, inactive, registers.settled, differing(&x, &y))
 }
 
 fn main() {

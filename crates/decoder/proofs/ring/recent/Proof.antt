@@ -1,4 +1,4 @@
--- `recent`: the newest samples, and the frame put behind them.
+-- `recent`: the newest samples, and the frame put after them.
 use Prim.Native.Nat.{_-_}
 use mathlib.Core.Path.{_≡_}
 use native.Mathlib.Omega.{arith}

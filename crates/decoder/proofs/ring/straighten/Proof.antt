@@ -1,4 +1,4 @@
--- `straighten`: three blocks, put one behind the other.
+-- `straighten`: three blocks, put one after the other.
 use mathlib.Core.Path.{sym}
 use native.Mathlib.Omega.{arith}
 use lib.Seq.{length-take-le}

@@ -2,7 +2,7 @@
 use mathlib.Core.Path.{_∙_}
 use native.Mathlib.Omega.{arith}
 use Rattle.slices.proofs.Stored.{placed-stored}
-use Rattle.decoder.proofs.StraightLines.{lines, behind, put-back}
+use Rattle.decoder.proofs.StraightLines.{lines, frame-outputs, put-back}
 use borrow.Author.Needs.{needs}
 use Rattle.decoder.proofs.samples.filter_on.Statement.{statement}
 use Rattle.decoder.proofs.samples.filter_on.Tie as tie
@@ -19,7 +19,7 @@ returns c =
     c .before .before .before .before .before .before .before .put2 .ensures
     ∙ put-back (s .args .samples .now) (c .before .before .before .before .before .before .before .before .before .before .before .before .before .filter-frame .last .1 .1 .1 .1 .0) (s .args .config .history)
     (omega (arith, c .before .before .before .before .before .before .before .before .before .before .before .before .before .filter-frame .kept .1 .1 .1 .1 .0, c .before .before .before .before .before .before .before .before .before .before .before .before .before .before .before .before .before .before .straighten .kept .1 .1 .1 .1 .0, s .pre .2))
-    ∙ behind (s .pre .0) _ (rw (c .before .before .before .before .before .before .before .before .before .before .before .before .before .before .before .before .before .before .before .before .before .before .before .before .before .before .before .before .before .recent .ensures, c .before .before .before .before .before .before .before .before .before .before .before .before .before .before .before .before .before .before .straighten .ensures) at (c .before .before .before .before .before .before .before .before .before .before .before .before .before .filter-frame .ensures)) in
+    ∙ frame-outputs (s .pre .0) _ (rw (c .before .before .before .before .before .before .before .before .before .before .before .before .before .before .before .before .before .before .before .before .before .before .before .before .before .before .before .before .before .recent .ensures, c .before .before .before .before .before .before .before .before .before .before .before .before .before .before .before .before .before .before .straighten .ensures) at (c .before .before .before .before .before .before .before .before .before .before .before .before .before .filter-frame .ensures)) in
     let inputs = c .before .before .before .before .before .before .before .before .before .before .before .before .before .before .before .before .before .before .before .before .before .before .before .before .put .ensures ∙ placed-stored _ _ _ (omega (arith, s .pre .0)) in
     let outputs = c .before .before .put3 .ensures ∙ placed-stored _ _ _ (omega (arith, c .before .before .before .before .before .before .before .put2 .kept .0, s .pre .0)) in
     rw (inputs, outputs, out)

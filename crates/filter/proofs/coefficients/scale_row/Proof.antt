@@ -9,7 +9,7 @@ use lib.ListN.{length, take, drop, set, getD, length-set, length-map}
 use lib.Seq.{take-suc, take-length, length-take-le}
 use lib.Ieee.{Float, nan}
 use Rattle.floats.specs.Single.{_⊗_}
-use Rattle.filter.proofs.Growing.{store-behind}
+use Rattle.filter.proofs.Growing.{store-next}
 use Rattle.filter.proofs.coefficients.scale_row.Statement.{statement}
 use Rattle.filter.proofs.coefficients.scale_row.Tie as tie
 
@@ -28,7 +28,7 @@ scaled-more : (gain : Float) (row c : List Float) (k : ℕ) → k < length row �
     set (scaled-to gain row c k) k (gain ⊗ getD row k nan) ≡ scaled-to gain row c (k + 1)
 unfolding scaled-to
 scaled-more gain row c k h l =
-    store-behind (map (λ e. gain ⊗ e) (take k row)) c k _ (length-map (take k row) _ ∙ length-take-le k row (omega arith)) (omega arith)
+    store-next (map (λ e. gain ⊗ e) (take k row)) c k _ (length-map (take k row) _ ∙ length-take-le k row (omega arith)) (omega arith)
     ∙ rw (add-one, take-suc row k nan, map-append)
 
 loop-holds : tie.Need-loop-holds Inv-loop μ-loop
