@@ -3,7 +3,7 @@ use crate::near::CORRELATION;
 use crate::near::SIGNAL;
 use crate::tally::Place;
 use crate::tally::Tally;
-use encoder::frame::Frame;
+use encoder::frame::Framed;
 use encoder::state::Encoder;
 use encoder::state::start;
 use floats::bits::float_of;
@@ -92,7 +92,7 @@ fn read_frame(fd: i32) -> Given {
 }
 
 // Encodes a frame with the published tables.
-fn encode(encoder: Encoder, head: &[u8; 7], given: Samples) -> Frame {
+fn encode(encoder: Encoder, head: &[u8; 7], given: Samples) -> Framed {
     let samples = given.values;
     let nbits = of_four(head[1], head[2], head[3], head[4]);
     let near_nyquist = head[0] != 0;
@@ -157,7 +157,7 @@ fn compare_correlation(tally: Tally, bits: u32, mem_nc: f32) -> Tally {
 }
 
 // Compares all that is published of a frame and that shows.
-fn compare_frame(tally: Tally, reports: &[u8; 16], signal: Floats, framed: Frame) -> Tally {
+fn compare_frame(tally: Tally, reports: &[u8; 16], signal: Floats, framed: Framed) -> Tally {
     let encoder = framed.encoder;
     let pitch = framed.pitch;
     let memory = encoder.memory;

@@ -4,7 +4,7 @@ use crate::set::Set;
 use crate::state::Run;
 use crate::state::broken;
 use crate::state::unknown;
-use encoder::frame::Frame;
+use encoder::frame::Framed;
 use encoder::state::Encoder;
 use encoder::state::start;
 use lag::pitch::PitchRecord;
@@ -69,7 +69,7 @@ fn compare_pitch(tally: Tally, expected: &[u8; 8], pitch: PitchRecord) -> Tally 
 }
 
 // Compares all that a frame gave with the eight bytes that a file has for it.
-fn compare_frame(tally: Tally, expected: &[u8; 8], framed: Frame) -> Tally {
+fn compare_frame(tally: Tally, expected: &[u8; 8], framed: Framed) -> Tally {
     let answer = framed.answer;
     let pitch = framed.pitch;
     let answered = tally.byte(b"answer", expected[0], number(answer));
@@ -78,7 +78,7 @@ fn compare_frame(tally: Tally, expected: &[u8; 8], framed: Frame) -> Tally {
 }
 
 // Makes a frame's call, with what the file has for it.
-fn make(set: Set, given: Samples, head: &[u8; 7], encoder: Encoder) -> Frame {
+fn make(set: Set, given: Samples, head: &[u8; 7], encoder: Encoder) -> Framed {
     let first_table = set.first;
     let second_table = set.second;
     let third_table = set.third;

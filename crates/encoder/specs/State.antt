@@ -25,20 +25,20 @@ clearedAt rate duration = record {
 }
 
 -- a refused start hands back the cleared 48000 Hz, 10 ms state
-abbrev pub startedBy : Configured → ℕ → ℕ → Started
-startedBy (Config c) rate duration = record { answer = Done; encoder = clearedAt rate duration }
-startedBy (Refused a) rate duration = record { answer = a; encoder = clearedAt 48000 10000 }
+abbrev pub startedWith : Configured → ℕ → ℕ → Started
+startedWith (Config c) rate duration = record { answer = Done; encoder = clearedAt rate duration }
+startedWith (Refused a) rate duration = record { answer = a; encoder = clearedAt 48000 10000 }
 
 -- a start at a rate in Hz and a duration in microseconds: checks 1 and 2
 abbrev pub started : ℕ → ℕ → Started
-started rate duration = startedBy (configOf rate duration) rate duration
+started rate duration = startedWith (configOf rate duration) rate duration
 
 -- unfit where there is no configuration, or where the lag is out of its range
-abbrev pub fittedBy : Configured → Bool → Configured
-fittedBy (Config c) true = Config c
-fittedBy (Config c) false = Refused UnfitState
-fittedBy (Refused a) b = Refused UnfitState
+abbrev pub fitBy : Configured → Bool → Configured
+fitBy (Config c) true = Config c
+fitBy (Config c) false = Refused UnfitState
+fitBy (Refused a) b = Refused UnfitState
 
 -- the configuration of a state: it is unfit where its rate or duration is not in the table, or its previous lag outside 17 to 114
-abbrev pub fitted : Encoder → Configured
-fitted e = fittedBy (configOf (e .rate) (e .duration)) (leb 17 (e .«t_prev») && leb (e .«t_prev») 114)
+abbrev pub fitConfig : Encoder → Configured
+fitConfig e = fitBy (configOf (e .rate) (e .duration)) (leb 17 (e .«t_prev») && leb (e .«t_prev») 114)

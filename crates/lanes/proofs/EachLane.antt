@@ -8,7 +8,10 @@ use borrow.Author.Tests.{le-leb}
 use lib.Ieee.{Float}
 use lib.ListN.{length}
 use Rattle.floats.specs.Single.{_⊕_, _⊖_, _⊗_, 0·0, at}
-use Rattle.lanes.specs.Lanes.{all, plus, minus, steps, firAdded, firTaken, fromZero, Lane, l0, l1, l2, l3, l4, l5, l6, l7, place, lane, added, taken}
+use Rattle.lanes.specs.Lanes.{all, listed, rowAdded, plus, minus, steps, firAdded, firTaken, fromZero, Lane, l0, l1, l2, l3, l4, l5, l6, l7, place, lane, added, taken}
+use Rattle.slices.specs.Slices.{placed}
+use Rattle.slices.specs.Written.{written}
+use Rattle.slices.proofs.Written.{placed-written}
 use Rattle.lanes.specs.declared.Lanes.{Lanes}
 
 pub lane-all : (j : Lane) (v : Float) → lane j (all v) ≡ v
@@ -21,6 +24,34 @@ lane-all l5 v = refl
 lane-all l6 v = refl
 lane-all l7 v = refl
 
+-- the places of the eight are the numbers below 8
+pub each-place : (P : ℕ → Type 0) → ((j : Lane) → P (place j)) → (n : ℕ) → n < 8 → P n
+each-place P f zero h = f l0
+each-place P f (suc zero) h = f l1
+each-place P f (suc (suc zero)) h = f l2
+each-place P f (suc (suc (suc zero))) h = f l3
+each-place P f (suc (suc (suc (suc zero)))) h = f l4
+each-place P f (suc (suc (suc (suc (suc zero))))) h = f l5
+each-place P f (suc (suc (suc (suc (suc (suc zero)))))) h = f l6
+each-place P f (suc (suc (suc (suc (suc (suc (suc zero))))))) h = f l7
+each-place P f (suc (suc (suc (suc (suc (suc (suc (suc n)))))))) h = absurd (omega arith)
+
+pub lane-at : (s : Lanes) (j : Lane) → at (listed s) (place j) ≡ lane j s
+unfolding listed
+lane-at s l0 = refl
+lane-at s l1 = refl
+lane-at s l2 = refl
+lane-at s l3 = refl
+lane-at s l4 = refl
+lane-at s l5 = refl
+lane-at s l6 = refl
+lane-at s l7 = refl
+
+-- eight that are put in are written one by one
+pub placed-eight : (l : List Float) (i : ℕ) (s : Lanes) → i + 8 ≤ length l → placed l i (listed s) ≡ written l i (at (listed s)) 8
+unfolding listed
+placed-eight l i s h = placed-written l (listed s) i h
+
 lane-plus : (j : Lane) (s : Lanes) (c : Float) (x : List Float) (i : ℕ) → lane j (plus s c x i) ≡ lane j s ⊕ c ⊗ at x (i + place j)
 lane-plus l0 s c x i = rw add-zero
 lane-plus l1 s c x i = refl
@@ -30,6 +61,11 @@ lane-plus l4 s c x i = refl
 lane-plus l5 s c x i = refl
 lane-plus l6 s c x i = refl
 lane-plus l7 s c x i = refl
+
+-- a row's sample added to its own sum
+pub lane-row : (j : Lane) (s : Lanes) (c : Float) (x : List Float) (i : ℕ) → i + 8 ≤ length x → lane j (rowAdded s c x i) ≡ lane j s ⊕ c ⊗ at x (i + place j)
+unfolding rowAdded
+lane-row j s c x i h = rw (le-leb (i + 8) (length x) h) (lane-plus j s c x i)
 
 lane-minus : (j : Lane) (s : Lanes) (c : Float) (x : List Float) (i : ℕ) → lane j (minus s c x i) ≡ lane j s ⊖ c ⊗ at x (i + place j)
 lane-minus l0 s c x i = rw add-zero

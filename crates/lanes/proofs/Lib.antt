@@ -3,3 +3,4 @@ pub mod EachLane
 pub mod Times
 pub mod ThreeSums
 pub mod InPairs
+pub mod Sums

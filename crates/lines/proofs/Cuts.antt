@@ -34,20 +34,20 @@ module _ (L : Rules) where
   text-append s h (x ∷ a) b = rw (text-append (stateStep L s h x) (heldStep h x) a b, append-assoc)
 
   -- where less space is left than a row may need nothing is taken; where there is enough, at least one byte is
-  pub taken-none : (s : L .State) (h : Held) (bs : List ℕ) (room : ℕ) → room < L .space → taken L s h bs room ≡ 0
+  pub taken-none : (s : L .State) (h : Held) (bs : List ℕ) (free : ℕ) → free < L .space → taken L s h bs free ≡ 0
   unfolding taken
-  taken-none s h [] room r = refl
-  taken-none s h (b ∷ bs) room r = rw (lt-ltb room (L .space) r)
+  taken-none s h [] free r = refl
+  taken-none s h (b ∷ bs) free r = rw (lt-ltb free (L .space) r)
 
-  pub progress : (s : L .State) (h : Held) (bs : List ℕ) (room : ℕ) → 0 < length bs → L .space ≤ room → 0 < taken L s h bs room
+  pub progress : (s : L .State) (h : Held) (bs : List ℕ) (free : ℕ) → 0 < length bs → L .space ≤ free → 0 < taken L s h bs free
   unfolding taken
-  progress s h [] room l r = absurd (omega arith)
-  progress s h (b ∷ bs) room l r = rw (le-ltb room (L .space) r) (omega arith)
+  progress s h [] free l r = absurd (omega arith)
+  progress s h (b ∷ bs) free l r = rw (le-ltb free (L .space) r) (omega arith)
 
-  pub taken-fits : (s : L .State) (h : Held) (bs : List ℕ) (room : ℕ) → taken L s h bs room ≤ length bs
+  pub taken-fits : (s : L .State) (h : Held) (bs : List ℕ) (free : ℕ) → taken L s h bs free ≤ length bs
   unfolding taken
-  taken-fits s h [] room = omega arith
-  taken-fits s h (b ∷ bs) room = go (ltb room (L .space)) (taken-fits (stateStep L s h b) (heldStep h b) bs (room - length (emitted L s h b)))
+  taken-fits s h [] free = omega arith
+  taken-fits s h (b ∷ bs) free = go (ltb free (L .space)) (taken-fits (stateStep L s h b) (heldStep h b) bs (free - length (emitted L s h b)))
     where
       go : (t : Bool) {n : ℕ} → n ≤ length bs → cond t 0 (suc n) ≤ suc (length bs)
       go true l = omega arith
@@ -63,18 +63,18 @@ module _ (L : Rules) where
   silent s h b e = rw e
 
   -- The bytes before a newline only change what is held. Here `k` is how many they are.
-  pub record Line (s : L .State) (h : Held) (bs : List ℕ) (k room : ℕ) : Type 0 where
+  pub record Line (s : L .State) (h : Held) (bs : List ℕ) (k free : ℕ) : Type 0 where
     pub within : k ≤ length bs
     pub state : stateAfter L s h (take k bs) ≡ s
     pub silent : text L s h (take k bs) ≡ []
-    pub counted : taken L s h bs room ≡ k + taken L s (heldAfter h (take k bs)) (drop k bs) room
+    pub counted : taken L s h bs free ≡ k + taken L s (heldAfter h (take k bs)) (drop k bs) free
 
-  pub line : (s : L .State) (h : Held) (bs : List ℕ) (room : ℕ) → L .space ≤ room → Line s h bs (byteAt 10 bs) room
+  pub line : (s : L .State) (h : Held) (bs : List ℕ) (free : ℕ) → L .space ≤ free → Line s h bs (byteAt 10 bs) free
   unfolding byteAt stateAfter text taken heldAfter
-  line s h [] room r = record { within = omega arith; state = refl; silent = refl; counted = refl }
-  line s h (b ∷ bs) room r = go (eqb b 10) refl (λ h′. line s h′ bs room r)
+  line s h [] free r = record { within = omega arith; state = refl; silent = refl; counted = refl }
+  line s h (b ∷ bs) free r = go (eqb b 10) refl (λ h′. line s h′ bs free r)
     where
-      go : (t : Bool) → eqb b 10 ≡ t → ((h′ : Held) → Line s h′ bs (byteAt 10 bs) room) → Line s h (b ∷ bs) (cond t 0 (suc (byteAt 10 bs))) room
+      go : (t : Bool) → eqb b 10 ≡ t → ((h′ : Held) → Line s h′ bs (byteAt 10 bs) free) → Line s h (b ∷ bs) (cond t 0 (suc (byteAt 10 bs))) free
       go true e rest = record { within = omega arith; state = refl; silent = refl; counted = sym (zero-add _) }
       go false e rest =
           let i = rest (heldStep h b) in
@@ -82,5 +82,5 @@ module _ (L : Rules) where
             within = omega (arith, i .within);
             state = ap (λ (x : L .State). stateAfter L x (heldStep h b) (take (byteAt 10 bs) bs)) (still s h b e) ∙ i .state;
             silent = rw (still s h b e, silent s h b e) (i .silent);
-            counted = rw (le-ltb room (L .space) r, still s h b e, silent s h b e, sub-zero, i .counted) (omega arith);
+            counted = rw (le-ltb free (L .space) r, still s h b e, silent s h b e, sub-zero, i .counted) (omega arith);
           }

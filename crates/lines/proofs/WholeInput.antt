@@ -12,7 +12,7 @@ use lib.ListN.{length, take, drop, set, length-append, length-set, length-take, 
 use lib.Seq.{take-suc-set, take-all, take-append-le, take-take}
 use Rattle.lines.specs.Listings.{Rules, Decided, lastLine, linesFrom, rowsFrom, listingOf}
 use Rattle.lines.specs.Machine.{emptied, nothingHeld, heldLine, heldStep, heldAfter, stateStep, emitted, stateAfter, text, taken, lastText}
-use Rattle.lines.specs.Machine.{Call, Feeding, begun, offered, takenBy, called, calledAll, wholeText, serving}
+use Rattle.lines.specs.Machine.{Call, Run, begun, offered, takenBy, called, calledAll, wholeText, serving}
 use Rattle.lines.specs.declared.held.Held.{Held}
 use Rattle.lines.proofs.Cuts.{held-append, state-append, text-append, progress, taken-fits}
 
@@ -111,7 +111,7 @@ module _ (L : Rules) (decided : Decided L) where
 
 module _ (L : Rules) where
   -- all text once the input that is left is fed in one piece
-  ending : Feeding L → List ℕ
+  ending : Run L → List ℕ
   ending f = f .texts ++ rest L (f .state) (f .held) (f .left)
 
   -- a call that takes a part of what is left leaves the whole text as it is
@@ -121,42 +121,42 @@ module _ (L : Rules) where
   in-two s h t a b = rw (text-append L s h a b, state-append L s h a b, held-append h a b) (simp append-assoc)
 
   -- what it takes of the bytes that it is offered are the first of what is left
-  of-all : (f : Feeding L) (c : Call) → take (takenBy L f c) (offered L f c) ≡ take (takenBy L f c) (f .left)
+  of-all : (f : Run L) (c : Call) → take (takenBy L f c) (offered L f c) ≡ take (takenBy L f c) (f .left)
   unfolding takenBy
   of-all f c =
       take-take (takenBy L f c) (c .cut) (f .left)
-      (omega (arith, taken-fits L (f .state) (f .held) (offered L f c) (c .room), length-take (c .cut) (f .left)))
+      (omega (arith, taken-fits L (f .state) (f .held) (offered L f c) (c .buffer), length-take (c .cut) (f .left)))
 
-  call-keeps : (f : Feeding L) (c : Call) → ending f ≡ ending (called L f c)
+  call-keeps : (f : Run L) (c : Call) → ending f ≡ ending (called L f c)
   unfolding ending called
   call-keeps f c =
       ap (λ (l : List ℕ). f .texts ++ rest L (f .state) (f .held) l) (sym (take-append-drop (takenBy L f c) (f .left))) ∙
       rw (of-all f c) (in-two (f .state) (f .held) (f .texts) (take (takenBy L f c) (f .left)) (drop (takenBy L f c) (f .left)))
 
-  calls-keep : (f : Feeding L) (cs : List Call) → ending f ≡ ending (calledAll L f cs)
+  calls-keep : (f : Run L) (cs : List Call) → ending f ≡ ending (calledAll L f cs)
   unfolding calledAll
   calls-keep f [] = refl
   calls-keep f (c ∷ cs) = call-keeps f c ∙ calls-keep (called L f c) cs
 
   -- a call that is offered a byte and has space for a row takes at least one
-  pub takes-one : (f : Feeding L) (c : Call) → 0 < length (f .left) → 1 ≤ c .cut → L .space ≤ c .room → 0 < takenBy L f c
+  pub takes-one : (f : Run L) (c : Call) → 0 < length (f .left) → 1 ≤ c .cut → L .space ≤ c .buffer → 0 < takenBy L f c
   unfolding takenBy
-  takes-one f c l o r = progress L (f .state) (f .held) (take (c .cut) (f .left)) (c .room) (rw length-take (omega arith)) r
+  takes-one f c l o r = progress L (f .state) (f .held) (take (c .cut) (f .left)) (c .buffer) (rw length-take (omega arith)) r
 
   -- enough such calls take every byte
-  pub all-taken : (cs : List Call) (f : Feeding L) → length (f .left) ≤ serving L cs → calledAll L f cs .left ≡ []
+  pub all-taken : (cs : List Call) (f : Run L) → length (f .left) ≤ serving L cs → calledAll L f cs .left ≡ []
   unfolding calledAll serving called
   all-taken [] f l = empty (f .left) l
     where
       empty : (bs : List ℕ) → length bs ≤ 0 → bs ≡ []
       empty [] k = refl
       empty (b ∷ bs) k = absurd (omega arith)
-  all-taken (c ∷ cs) f l = all-taken cs (called L f c) (go (leb 1 (c .cut)) (leb (L .space) (c .room)) refl refl l)
+  all-taken (c ∷ cs) f l = all-taken cs (called L f c) (go (leb 1 (c .cut)) (leb (L .space) (c .buffer)) refl refl l)
     where
       shorter : length (called L f c .left) ≡ length (f .left) - takenBy L f c
       shorter = length-drop (takenBy L f c) (f .left)
 
-      go : (o r : Bool) → leb 1 (c .cut) ≡ o → leb (L .space) (c .room) ≡ r → length (f .left) ≤ cond (o && r) (suc (serving L cs)) (serving L cs) →
+      go : (o r : Bool) → leb 1 (c .cut) ≡ o → leb (L .space) (c .buffer) ≡ r → length (f .left) ≤ cond (o && r) (suc (serving L cs)) (serving L cs) →
           length (called L f c .left) ≤ serving L cs
       go false r p q k = omega (arith, shorter)
       go true false p q k = omega (arith, shorter)
@@ -164,14 +164,16 @@ module _ (L : Rules) where
         where
           some : (t : Bool) → ltb 0 (length (f .left)) ≡ t → length (called L f c .left) ≤ serving L cs
           some false e = omega (arith, shorter, ltb-false 0 (length (f .left)) e)
-          some true e = omega (arith, shorter, takes-one f c (ltb-true 0 (length (f .left)) e) (leb-true 1 (c .cut) p) (leb-true (L .space) (c .room) q))
+          some true e = omega (arith, shorter, takes-one f c (ltb-true 0 (length (f .left)) e) (leb-true 1 (c .cut) p) (leb-true (L .space) (c .buffer) q))
 
 module _ (L : Rules) (decided : Decided L) where
-  -- whatever the cuts and the buffers, if as many calls as the input has bytes are offered a byte and have space for a row
-  pub any-cuts : (input : List ℕ) (cs : List Call) → length input ≤ serving L cs → wholeText L (calledAll L (begun L input) cs) ≡ listingOf L input
+  -- once nothing is left, whatever the cuts and the buffers were
+  pub once-taken : (input : List ℕ) (cs : List Call) → calledAll L (begun L input) cs .left ≡ [] → wholeText L (calledAll L (begun L input) cs) ≡ listingOf L input
   unfolding ending rest text stateAfter heldAfter
-  any-cuts input cs l =
-      let f = calledAll L (begun L input) cs in
-      let none : f .left ≡ [] = all-taken L cs (begun L input) l in
-      let all : wholeText L f ≡ ending L f = rw none in
+  once-taken input cs none =
+      let all : wholeText L (calledAll L (begun L input) cs) ≡ ending L (calledAll L (begun L input) cs) = rw none in
       all ∙ sym (calls-keep L (begun L input) cs) ∙ (rw append-assoc at (one-piece L decided input))
+
+  -- and nothing is left once as many calls as the input has bytes were offered a byte and had space for a row
+  pub any-cuts : (input : List ℕ) (cs : List Call) → length input ≤ serving L cs → wholeText L (calledAll L (begun L input) cs) ≡ listingOf L input
+  any-cuts input cs l = once-taken input cs (all-taken L cs (begun L input) l)

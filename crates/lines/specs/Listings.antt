@@ -7,7 +7,7 @@ use lib.Dec.{eqb}
 use lib.ListN.{take}
 
 -- What makes a listing: its header, the state before the first line, and what each line makes of a state:
--- the state before the next line, and the line's row. No row has more than `space` bytes.
+-- the state before the next line, and the line's row. `space` is how many bytes any row fits.
 pub record Rules : Type 1 where
   pub State : Type 0
   pub header : List ℕ

@@ -33,10 +33,10 @@ heldAfter h (b ∷ bs) = heldAfter (heldStep h b) bs
 abbrev pub lineTaken : Held → List ℕ → ℕ → Taken
 lineTaken h rest at = record { held = heldAfter h (take (byteAt 10 rest) rest); at = at + byteAt 10 rest }
 
--- a call is offered the next `cut` bytes of what is left of the input, and a buffer of `room` bytes
+-- a call is offered the next `cut` bytes of what is left of the input, and a buffer of `buffer` bytes to write into
 pub record Call : Type 0 where
   pub cut : ℕ
-  pub room : ℕ
+  pub buffer : ℕ
 
 module _ (L : Rules) where
   -- a newline ends the line that is held: the state moves on, and the row is written
@@ -55,36 +55,36 @@ module _ (L : Rules) where
   text s h [] = []
   text s h (b ∷ bs) = emitted s h b ++ text (stateStep s h b) (heldStep h b) bs
 
-  -- how many bytes a call takes: all, or those before the first at which less space is left than a row may need
+  -- how many bytes a call takes: all, or those before the first at which fewer than `space` bytes are free to write into
   unfoldable pub taken : L .State → Held → List ℕ → ℕ → ℕ
-  taken s h [] room = zero
-  taken s h (b ∷ bs) room =
-      cond (ltb room (L .space)) zero (suc (taken (stateStep s h b) (heldStep h b) bs (room - length (emitted s h b))))
+  taken s h [] free = zero
+  taken s h (b ∷ bs) free =
+      cond (ltb free (L .space)) zero (suc (taken (stateStep s h b) (heldStep h b) bs (free - length (emitted s h b))))
 
   -- a last line without a newline has a row too
   unfoldable pub lastText : L .State → Held → List ℕ
   lastText s h = cond (eqb (h .len) 0) [] (L .row s (heldLine h))
 
-  -- Where a run of calls stands: the state, what is held, the input that is left, and all text so far.
-  pub record Feeding : Type 0 where
+  -- where a run of calls stands: the state, what is held, the input that is left, and all text so far.
+  pub record Run : Type 0 where
     pub state : L .State
     pub held : Held
     pub left : List ℕ
     pub texts : List ℕ
 
   -- before the first call the header is written
-  abbrev pub begun : List ℕ → Feeding
+  abbrev pub begun : List ℕ → Run
   begun input = record { state = L .first; held = nothingHeld; left = input; texts = L .header }
 
   -- the bytes that a call is offered, and how many of them it takes
-  abbrev pub offered : Feeding → Call → List ℕ
+  abbrev pub offered : Run → Call → List ℕ
   offered f c = take (c .cut) (f .left)
 
-  unfoldable pub takenBy : Feeding → Call → ℕ
-  takenBy f c = taken (f .state) (f .held) (offered f c) (c .room)
+  unfoldable pub takenBy : Run → Call → ℕ
+  takenBy f c = taken (f .state) (f .held) (offered f c) (c .buffer)
 
   -- it writes their text, and the next call is offered what is left
-  unfoldable pub called : Feeding → Call → Feeding
+  unfoldable pub called : Run → Call → Run
   called f c =
       record {
         state = stateAfter (f .state) (f .held) (take (takenBy f c) (offered f c));
@@ -93,15 +93,15 @@ module _ (L : Rules) where
         texts = f .texts ++ text (f .state) (f .held) (take (takenBy f c) (offered f c));
       }
 
-  unfoldable pub calledAll : Feeding → List Call → Feeding
+  unfoldable pub calledAll : Run → List Call → Run
   calledAll f [] = f
   calledAll f (c ∷ cs) = calledAll (called f c) cs
 
   -- all text, once the last line's row is written
-  abbrev pub wholeText : Feeding → List ℕ
+  abbrev pub wholeText : Run → List ℕ
   wholeText f = f .texts ++ lastText (f .state) (f .held)
 
   -- how many of some calls are offered a byte and have space for a row
   unfoldable pub serving : List Call → ℕ
   serving [] = zero
-  serving (c ∷ cs) = cond (leb 1 (c .cut) && leb (L .space) (c .room)) (suc (serving cs)) (serving cs)
+  serving (c ∷ cs) = cond (leb 1 (c .cut) && leb (L .space) (c .buffer)) (suc (serving cs)) (serving cs)

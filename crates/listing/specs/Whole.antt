@@ -11,7 +11,7 @@ header =
     113 ∷ 117 ∷ 97 ∷ 114 ∷ 116 ∷ 101 ∷ 114 ∷ 9 ∷
     97 ∷ 110 ∷ 115 ∷ 119 ∷ 101 ∷ 114 ∷ 10 ∷ []
 
--- between two lines only the number of the next one is known; a row has at most three cells of 21 bytes, and 21 for the answer's
+-- between two lines only the number of the next one is known; a row has four cells of at most 21 bytes
 abbrev pub lagRules : Rules
 lagRules =
     record {

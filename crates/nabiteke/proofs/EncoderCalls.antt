@@ -8,9 +8,9 @@ use Rattle.rates.specs.Answers.{numberOf}
 use Rattle.rates.specs.Configs.{configOf}
 use Rattle.rates.specs.declared.config.Configured.{Configured}
 use Rattle.rates.specs.declared.config.Configured.the-variants.{Config, Refused}
-use Rattle.encoder.specs.State.{startedBy, started}
+use Rattle.encoder.specs.State.{startedWith, started}
 use Rattle.encoder.specs.declared.state.Started.{Started}
-use Rattle.encoder.specs.declared.frame.Frame.{Frame}
+use Rattle.encoder.specs.declared.frame.Framed.{Framed}
 use Rattle.nabiteke.specs.EncoderArrays.{EncoderArrays, readEncoder, writtenEncoder, recordOf}
 use Rattle.nabiteke.specs.EncoderCalls.{Given, framedBy, handed, frameCall}
 use Rattle.nabiteke.proofs.EncoderFrames.{Outcome, refusal, success, outcome}
@@ -19,17 +19,17 @@ use Rattle.nabiteke.proofs.EncoderFrames.{Outcome, refusal, success, ou
 pub started-fits : (rate duration : ℕ) (s : Started) → s ≡ started rate duration → s .encoder .«t_prev» < 2 ^ 32
 started-fits rate duration s e = rw e (go (configOf rate duration))
   where
-    go : (k : Configured) → startedBy k rate duration .encoder .«t_prev» < 2 ^ 32
+    go : (k : Configured) → startedWith k rate duration .encoder .«t_prev» < 2 ^ 32
     go (Config c) = omega arith
     go (Refused a) = omega arith
 
-module _ (a : EncoderArrays) (f : Given) (word : ℕ) (r : Frame) (rec : List ℕ) (e : r ≡ framedBy (readEncoder a) f)
+module _ (a : EncoderArrays) (f : Given) (word : ℕ) (r : Framed) (rec : List ℕ) (e : r ≡ framedBy (readEncoder a) f)
     (w : word ≡ numberOf (r .answer)) (m : rec ≡ recordOf (r .pitch) (r .«nbits_ltpf»)) where
   -- a refused frame leaves the arrays
   pub frame-refused : (word ≡ 0 → ⊥) → (word, a, rec) ≡ frameCall a f
   frame-refused some = rw (← e, w, m) (go r (rw (← e) at (outcome (readEncoder a) f)) w)
     where
-      go : (q : Frame) → Outcome (readEncoder a) q → word ≡ numberOf (q .answer) → (numberOf (q .answer), a, recordOf (q .pitch) (q .«nbits_ltpf»)) ≡ handed a q
+      go : (q : Framed) → Outcome (readEncoder a) q → word ≡ numberOf (q .answer) → (numberOf (q .answer), a, recordOf (q .pitch) (q .«nbits_ltpf»)) ≡ handed a q
       go q (refusal b h) v = rw (ne-eqb (numberOf b) 0 h)
       go q (success _ d l) v = absurd (some (v ∙ ap numberOf d))
 
@@ -37,7 +37,7 @@ module _ (a : EncoderArrays) (f : Given) (word : ℕ) (r : Frame) (rec : List �
   pub frame-fits : word ≡ 0 → r .encoder .«t_prev» < 2 ^ 32
   frame-fits none = go r (rw (← e) at (outcome (readEncoder a) f)) w
     where
-      go : (q : Frame) → Outcome (readEncoder a) q → word ≡ numberOf (q .answer) → q .encoder .«t_prev» < 2 ^ 32
+      go : (q : Framed) → Outcome (readEncoder a) q → word ≡ numberOf (q .answer) → q .encoder .«t_prev» < 2 ^ 32
       go q (refusal b h) v = absurd (h (sym v ∙ none))
       go q (success _ d l) v = omega arith
 

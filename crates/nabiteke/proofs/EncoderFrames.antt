@@ -13,52 +13,55 @@ use Rattle.rates.specs.declared.answer.Answer.the-variants.{Done, UnfitState, C
 use Rattle.rates.specs.declared.config.Lc3Config.{Lc3Config}
 use Rattle.rates.specs.declared.config.Configured.{Configured}
 use Rattle.rates.specs.declared.config.Configured.the-variants.{Config, Refused}
-use Rattle.encoder.specs.State.{fitted, fittedBy}
-use Rattle.encoder.specs.Accept.{accepted, acceptedBy, counted, finiteSet}
+use Rattle.encoder.specs.State.{fitConfig, fitBy}
+use Rattle.encoder.specs.Judge.{counted, finiteSet, judgedSet, judgedCount, judgedBits, judged}
 use Rattle.encoder.specs.Frame.{refusedFrame, encoded}
-use Rattle.encoder.specs.declared.frame.Frame.{Frame}
+use Rattle.encoder.specs.declared.frame.Framed.{Framed}
 use Rattle.encoder.specs.declared.state.Encoder.{Encoder}
-use Rattle.encoder.proofs.Accepted.{both}
+use Rattle.rates.proofs.Known.{both}
 use Rattle.encoder.proofs.Frames.{stays-fit}
 use Rattle.nabiteke.specs.EncoderCalls.{Given, framedBy}
 
 -- no refusal has the number 0
-pub refused-some : (k : Configured) (f : Given) (a : Answer) → acceptedBy k (f .resampling) (f .correlation) (f .signal) (f .samples) (f .nbits) ≡ Refused a →
-    numberOf a ≡ 0 → ⊥
+bits-some : (c : Lc3Config) (a : Answer) (bits : Bool) → cond bits (Config c) (Refused TooManyBits) ≡ Refused a → numberOf a ≡ 0 → ⊥
+bits-some c a true e z = let differ : _≡_ {A = ℕ} 0 1 = cc in omega arith
+bits-some c a false e z = let same : TooManyBits ≡ a = cc in omega (arith, ap numberOf same)
+
+count-some : (c : Lc3Config) (a : Answer) (nbits : ℕ) (samples : Bool) → judgedBits (cond samples (Config c) (Refused SampleCount)) nbits ≡ Refused a → numberOf a ≡ 0 → ⊥
+count-some c a nbits true e z = bits-some c a (leb nbits 3200) e z
+count-some c a nbits false e z = let same : SampleCount ≡ a = cc in omega (arith, ap numberOf same)
+
+pub refused-some : (k : Configured) (f : Given) (a : Answer) →
+    judgedBits (judgedCount (judgedSet k (f .resampling) (f .correlation) (f .signal)) (length (f .samples))) (f .nbits) ≡ Refused a → numberOf a ≡ 0 → ⊥
 refused-some (Refused b) f a e z = let same : UnfitState ≡ a = cc in omega (arith, ap numberOf same)
-refused-some (Config c) f a e z = go (counted (f .resampling) (f .correlation) (f .signal)) (finiteSet (f .resampling) (f .correlation) (f .signal))
-    (eqb (length (f .samples)) (c .nf)) (leb (f .nbits) 3200) e
+refused-some (Config c) f a e z = go (counted (f .resampling) (f .correlation) (f .signal)) (finiteSet (f .resampling) (f .correlation) (f .signal)) e
   where
-    go : (counts finite samples bits : Bool) →
-        cond counts
-        (cond finite (cond samples (cond bits (Config c) (Refused TooManyBits)) (Refused SampleCount)) (Refused CoefficientNotFinite))
-        (Refused CoefficientCount) ≡ Refused a → ⊥
-    go false y s b q = let same : CoefficientCount ≡ a = cc in omega (arith, ap numberOf same)
-    go true false s b q = let same : CoefficientNotFinite ≡ a = cc in omega (arith, ap numberOf same)
-    go true true false b q = let same : SampleCount ≡ a = cc in omega (arith, ap numberOf same)
-    go true true true false q = let same : TooManyBits ≡ a = cc in omega (arith, ap numberOf same)
-    go true true true true q = let differ : _≡_ {A = ℕ} 0 1 = cc in omega arith
+    go : (counts finite : Bool) →
+        judgedBits (judgedCount (cond counts (cond finite (Config c) (Refused CoefficientNotFinite)) (Refused CoefficientCount)) (length (f .samples))) (f .nbits) ≡ Refused a → ⊥
+    go false y q = let same : CoefficientCount ≡ a = cc in omega (arith, ap numberOf same)
+    go true false q = let same : CoefficientNotFinite ≡ a = cc in omega (arith, ap numberOf same)
+    go true true q = count-some c a (f .nbits) (eqb (length (f .samples)) (c .nf)) q z
 
 -- a fit state has a small lag
-fit-lag : (e : Encoder) (c : Lc3Config) → fitted e ≡ Config c → e .«t_prev» ≤ 114
+fit-lag : (e : Encoder) (c : Lc3Config) → fitConfig e ≡ Config c → e .«t_prev» ≤ 114
 fit-lag e c h = go (configOf (e .rate) (e .duration)) (leb 17 (e .«t_prev») && leb (e .«t_prev») 114) refl h
   where
-    go : (k : Configured) (b : Bool) → (leb 17 (e .«t_prev») && leb (e .«t_prev») 114) ≡ b → fittedBy k b ≡ Config c → e .«t_prev» ≤ 114
+    go : (k : Configured) (b : Bool) → (leb 17 (e .«t_prev») && leb (e .«t_prev») 114) ≡ b → fitBy k b ≡ Config c → e .«t_prev» ≤ 114
     go (Config d) true p q = leb-true (e .«t_prev») 114 (both (leb 17 (e .«t_prev»)) (leb (e .«t_prev») 114) p .1)
     go (Config d) false p q = let differ : _≡_ {A = ℕ} 0 1 = cc in absurd (omega arith)
     go (Refused a) b p q = let differ : _≡_ {A = ℕ} 0 1 = cc in absurd (omega arith)
 
 -- what a frame call can give
-pub data Outcome (e : Encoder) : Frame → Type 0 where
+pub data Outcome (e : Encoder) : Framed → Type 0 where
   refusal : (a : Answer) → (numberOf a ≡ 0 → ⊥) → Outcome e (refusedFrame e a)
-  success : (r : Frame) → r .answer ≡ Done → r .encoder .«t_prev» ≤ 114 → Outcome e r
+  success : (r : Framed) → r .answer ≡ Done → r .encoder .«t_prev» ≤ 114 → Outcome e r
 
 pub outcome : (e : Encoder) (f : Given) → Outcome e (framedBy e f)
-unfolding accepted encoded
-outcome e f = go (accepted e (f .resampling) (f .correlation) (f .signal) (f .samples) (f .nbits)) refl
+unfolding judged encoded
+outcome e f = go (judged e (f .resampling) (f .correlation) (f .signal) (f .samples) (f .nbits)) refl
   where
-    go : (k : Configured) → accepted e (f .resampling) (f .correlation) (f .signal) (f .samples) (f .nbits) ≡ k → Outcome e (framedBy e f)
-    go (Refused a) h = rw h (refusal a (refused-some (fitted e) f a h))
+    go : (k : Configured) → judged e (f .resampling) (f .correlation) (f .signal) (f .samples) (f .nbits) ≡ k → Outcome e (framedBy e f)
+    go (Refused a) h = rw h (refusal a (refused-some (fitConfig e) f a h))
     go (Config c) h =
         success (framedBy e f) (rw h)
         (fit-lag (framedBy e f .encoder) c (stays-fit e (f .resampling) (f .correlation) (f .signal) (f .samples) (f .nbits) (f .near) c h))

@@ -13,16 +13,15 @@ use Rattle.rates.specs.Table.{find}
 use Rattle.rates.specs.declared.config.Lc3Config.{Lc3Config}
 use Rattle.rates.specs.declared.config.Configured.{Configured}
 use Rattle.rates.specs.declared.config.Configured.the-variants.{Config, Refused}
-use Rattle.encoder.specs.Accept.{accepted}
-use Rattle.encoder.specs.State.{started, fitted}
-use Rattle.encoder.specs.Found as Found
-use Rattle.encoder.specs.Found.{foundIn}
+use Rattle.encoder.specs.Judge.{judged}
+use Rattle.encoder.specs.State.{started, fitConfig}
+use Rattle.found.specs.Found as Found
+use Rattle.found.specs.Found.{ready, foundIn}
 use Rattle.encoder.specs.Frame.{encoded}
-use Rattle.encoder.specs.declared.activation.Activation.{Activation}
-use Rattle.encoder.specs.declared.activation.Memory.{Memory}
-use Rattle.encoder.specs.declared.pitch.Detected.{Detected}
-use Rattle.encoder.specs.declared.signals.Lengths.{Lengths}
-use Rattle.encoder.specs.declared.frame.Frame.{Frame}
+use Rattle.found.specs.declared.activation.Activation.{Activation}
+use Rattle.found.specs.declared.activation.Memory.{Memory}
+use Rattle.search.specs.declared.pitch.Detected.{Detected}
+use Rattle.encoder.specs.declared.frame.Framed.{Framed}
 use Rattle.encoder.specs.declared.state.Encoder.{Encoder}
 use Rattle.encoder.proofs.Frames.{Takes, decoder-takes}
 use Rattle.nabiteke.specs.EncoderArrays.{EncoderArrays, arrays, readEncoder, writtenEncoder, recordOf}
@@ -39,7 +38,7 @@ pub call-kept : (a : EncoderArrays) (c : Call) → readEncoder (arraysAfter a c)
 call-kept a (start rate duration) = read-written (started rate duration .encoder)
 call-kept a (frame f) = go (framedBy (readEncoder a) f) (outcome (readEncoder a) f)
   where
-    go : (r : Frame) → Outcome (readEncoder a) r → readEncoder (handed a r .1) ≡ r .encoder
+    go : (r : Framed) → Outcome (readEncoder a) r → readEncoder (handed a r .1) ≡ r .encoder
     go r (refusal b h) = rw (ne-eqb (numberOf b) 0 h)
     go r (success _ d l) = rw d (read-written (r .encoder))
 
@@ -49,10 +48,10 @@ calls-kept a [] = refl
 calls-kept a (c ∷ earlier) = call-kept (arraysAfterAll a earlier) c ∙ ap (λ (e : Encoder). after e c) (calls-kept a earlier)
 
 -- what is found in a frame, as a record
-found-recorded : (c : Lc3Config) (l : Lengths) (x : List Float) (d : Detected) (m : Memory) (k s : List Float) (nbits : ℕ) (near : Bool) →
-    Takes (foundIn c l x d m k s nbits near .pitch) → Recorded 0 (recordOf (foundIn c l x d m k s nbits near .pitch) (foundIn c l x d m k s nbits near .«nbits_ltpf»))
+found-recorded : (c : Lc3Config) (x : List Float) (d : Detected) (m : Memory) (k s : List Float) (nbits : ℕ) (near : Bool) →
+    Takes (foundIn c x d m k s nbits near .pitch) → Recorded 0 (recordOf (foundIn c x d m k s nbits near .pitch) (foundIn c x d m k s nbits near .«nbits_ltpf»))
 unfolding foundIn
-found-recorded c l x d m k s nbits near = go (d .present) _ _
+found-recorded c x d m k s nbits near = go (ready d k s) _ _
   where
     go : (b : Bool) (i : ℕ) (v : Activation) → Takes (cond b (Found.present m i v) (Found.absent m) .pitch) →
         Recorded 0 (recordOf (cond b (Found.present m i v) (Found.absent m) .pitch) (cond b (Found.present m i v) (Found.absent m) .«nbits_ltpf»))
@@ -61,15 +60,15 @@ found-recorded c l x d m k s nbits near = go (d .present) _ _
 
 -- which answers and records a frame call gives
 pub recorded : (a : EncoderArrays) (f : Given) → Recorded (frameCall a f .0) (frameCall a f .2)
-unfolding accepted encoded
-recorded a f = go (accepted (readEncoder a) (f .resampling) (f .correlation) (f .signal) (f .samples) (f .nbits)) refl
+unfolding judged encoded
+recorded a f = go (judged (readEncoder a) (f .resampling) (f .correlation) (f .signal) (f .samples) (f .nbits)) refl
   where
-    go : (k : Configured) → accepted (readEncoder a) (f .resampling) (f .correlation) (f .signal) (f .samples) (f .nbits) ≡ k → Recorded (frameCall a f .0) (frameCall a f .2)
-    go (Refused b) h = rw h (refused (numberOf b) (refused-some (fitted (readEncoder a)) f b h))
-    go (Config c) h = rw h (found-recorded c _ _ _ _ _ _ _ _ (rw h at (decoder-takes (readEncoder a) (f .resampling) (f .correlation) (f .signal) (f .samples) (f .nbits) (f .near))))
+    go : (k : Configured) → judged (readEncoder a) (f .resampling) (f .correlation) (f .signal) (f .samples) (f .nbits) ≡ k → Recorded (frameCall a f .0) (frameCall a f .2)
+    go (Refused b) h = rw h (refused (numberOf b) (refused-some (fitConfig (readEncoder a)) f b h))
+    go (Config c) h = rw h (found-recorded c _ _ _ _ _ _ _ (rw h at (decoder-takes (readEncoder a) (f .resampling) (f .correlation) (f .signal) (f .samples) (f .nbits) (f .near))))
 
 -- numbers of zero bytes
 pub zero-frame : (memories s m l : List Float) (f : Given) →
     frameCall (arrays (replicate 4 0) memories s m l) f ≡ (9, arrays (replicate 4 0) memories s m l, 0 ∷ 0 ∷ 0 ∷ 0 ∷ [])
-unfolding accepted find
+unfolding judged find
 zero-frame memories s m l f = refl

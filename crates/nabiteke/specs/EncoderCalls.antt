@@ -8,7 +8,7 @@ use lib.Ieee.{Float}
 use Rattle.rates.specs.Answers.{numberOf}
 use Rattle.encoder.specs.State.{started}
 use Rattle.encoder.specs.Frame.{framed}
-use Rattle.encoder.specs.declared.frame.Frame.{Frame}
+use Rattle.encoder.specs.declared.frame.Framed.{Framed}
 use Rattle.encoder.specs.declared.state.Encoder.{Encoder}
 use Rattle.nabiteke.specs.Words.{isYes, asFlag, whereDone}
 use Rattle.nabiteke.specs.EncoderArrays.{EncoderArrays, readEncoder, writtenEncoder, recordOf}
@@ -33,7 +33,7 @@ given resampling correlation signal samples nbits near = record {
 }
 
 -- what the encoder makes of it
-abbrev pub framedBy : Encoder → Given → Frame
+abbrev pub framedBy : Encoder → Given → Framed
 framedBy e f = framed e (f .resampling) (f .correlation) (f .signal) (f .samples) (f .nbits) (f .near)
 
 -- a start writes the state that it gives, refused or not
@@ -41,7 +41,7 @@ abbrev pub startCall : ℕ → ℕ → ℕ × EncoderArrays
 startCall rate duration = (numberOf (started rate duration .answer), writtenEncoder (started rate duration .encoder))
 
 -- what C gets of a frame's result: the answer, the arrays, where the next state is written if it is done, and the record
-abbrev pub handed : EncoderArrays → Frame → ℕ × EncoderArrays × List ℕ
+abbrev pub handed : EncoderArrays → Framed → ℕ × EncoderArrays × List ℕ
 handed a r = (numberOf (r .answer), whereDone (r .answer) (writtenEncoder (r .encoder)) a, recordOf (r .pitch) (r .«nbits_ltpf»))
 
 abbrev pub frameCall : EncoderArrays → Given → ℕ × EncoderArrays × List ℕ

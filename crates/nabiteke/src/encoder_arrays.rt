@@ -2,10 +2,10 @@
 use crate::words::as_flag;
 use crate::words::is_yes;
 use crate::words::wide;
-use encoder::activation::Memory;
-use encoder::highpass::HighPass;
 use encoder::state::Encoder;
+use found::activation::Memory;
 use lag::pitch::PitchRecord;
+use signals::highpass::HighPass;
 ghost use mathlib.Core.Path.{_≡_};
 ghost use Prim.Native.Nat.{_<_, _^_};
 ghost use Rattle.nabiteke.specs.EncoderArrays.{arrays, readEncoder, numbersOf, memoriesOf, writtenEncoder, recordOf};

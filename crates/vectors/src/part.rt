@@ -29,10 +29,10 @@ pub fn first_mut(floats: &mut [f32], count: usize) -> &mut [f32]
 pub fn first_signed(samples: &[i16; 512], count: usize) -> &[i16]
     ensures { λ r. ⌜ now r ≡ take count (now (samples .entry)) ⌝ }
 {
-    let all: &[i16] = samples;
-    if count < all.len() {
-        &all[..count]
+    let whole: &[i16] = samples;
+    if count < whole.len() {
+        &whole[..count]
     } else {
-        all
+        whole
     }
 }

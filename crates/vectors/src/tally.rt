@@ -146,13 +146,13 @@ impl Tally {
     pub fn sample(self, place: usize, expected: f32, got: f32) -> Self
         ensures { λ r. ⌜ r ≡ compared self (toBits binary32 expected) (toBits binary32 got) ⌝ }
     {
-        let expected = bits_of(expected);
-        let got = bits_of(got);
-        if expected == got {
+        let expected_bits = bits_of(expected);
+        let got_bits = bits_of(got);
+        if expected_bits == got_bits {
             return self;
         }
         if self.differences < PRINTED {
-            self.print_sample(place, expected, got);
+            self.print_sample(place, expected_bits, got_bits);
         }
         self.differs()
     }

@@ -8,27 +8,18 @@ use borrow.Author.Needs.{needs}
 use Rattle.listing_stream.proofs.end.Statement.{statement}
 use Rattle.listing_stream.proofs.end.Tie as tie
 
-finish-requires : tie.Need-finish-requires
-finish-requires c κs = search needs
-
 array-share-prefix-text : tie.Need-array-share-prefix-text
 array-share-prefix-text c = omega (arith, written-length (c .finish .ensures .0))
 
 slice-aggregate-write-out : tie.Need-slice-aggregate-write-out
 slice-aggregate-write-out c = sym (length-take-le _ _ (omega (arith, written-length (c .before .finish .ensures .0))))
 
-write-out-requires : tie.Need-write-out-requires
-write-out-requires c κs = search needs
-
-returns : tie.Need-returns
-returns c = search needs
-
 pub end-spec : {M : Type 1} → statement M
 end-spec =
     tie.close
     (tie.spec
-    finish-requires
+    (λ c κs. search needs)
     array-share-prefix-text
     slice-aggregate-write-out
-    write-out-requires
-    returns)
+    (λ c κs. search needs)
+    (λ c. search needs))

@@ -30,47 +30,14 @@ loop-holds : tie.Need-loop-holds Inv-loop μ-loop
 unfolding stateAfter heldAfter
 loop-holds c = search needs
 
-sub-feed : tie.Need-sub-feed Inv-loop μ-loop
-sub-feed c = search needs
-
-part-feed-start : tie.Need-part-feed-start Inv-loop μ-loop
-part-feed-start c = search needs
-
-part-feed-end : tie.Need-part-feed-end Inv-loop μ-loop
-part-feed-end c = search needs
-
-feed-requires : tie.Need-feed-requires Inv-loop μ-loop
-feed-requires c κs = search needs
-
-same-length : tie.Need-same-length Inv-loop μ-loop
-same-length c = search needs
-
-no-space-requires : tie.Need-no-space-requires Inv-loop μ-loop
-no-space-requires c κs = search needs
-
 returns : tie.Need-returns Inv-loop μ-loop
 returns c = λ e. absurd (true≢false e)
-
-add-at : tie.Need-add-at Inv-loop μ-loop
-add-at c = search needs
-
-slice-reshare-prefix-write-out : tie.Need-slice-reshare-prefix-write-out Inv-loop μ-loop
-slice-reshare-prefix-write-out c = search needs
 
 slice-aggregate-write-out : tie.Need-slice-aggregate-write-out Inv-loop μ-loop
 slice-aggregate-write-out c = sym (length-take-le _ _ (omega arith))
 
-write-out-requires : tie.Need-write-out-requires Inv-loop μ-loop
-write-out-requires c κs = search needs
-
-same-length-2 : tie.Need-same-length-2 Inv-loop μ-loop
-same-length-2 c = search needs
-
 returns-2 : tie.Need-returns-2 Inv-loop μ-loop
 returns-2 c = λ e. absurd (true≢false e)
-
-loop-less : tie.Need-loop-less Inv-loop μ-loop
-loop-less c = search needs
 
 loop-again : tie.Need-loop-again Inv-loop μ-loop
 loop-again c =
@@ -84,9 +51,6 @@ loop-again c =
     take-take used (length l - at) (drop at l) (omega arith) in
     (omega arith, search needs, joined _ _ _ l at used _ (c .before .before .before .before .before .before .before .before .before .before .before .before .before .loop .inv .2) part (fed .1 .0))
 
-same-length-3 : tie.Need-same-length-3 Inv-loop μ-loop
-same-length-3 c = search needs
-
 returns-3 : tie.Need-returns-3 Inv-loop μ-loop
 returns-3 c = λ _. c .before .loop .inv .2 ∙ rw (take-all (c .before .loop .at) (c .before .before .before .before .args .input .now) (omega arith))
 
@@ -97,20 +61,20 @@ pump-spec =
     Inv-loop
     μ-loop
     loop-holds
-    sub-feed
-    part-feed-start
-    part-feed-end
-    feed-requires
-    no-space-requires
-    same-length
+    (λ c. search needs)
+    (λ c. search needs)
+    (λ c. search needs)
+    (λ c κs. search needs)
+    (λ c κs. search needs)
+    (λ c. search needs)
     returns
-    add-at
-    slice-reshare-prefix-write-out
+    (λ c. search needs)
+    (λ c. search needs)
     slice-aggregate-write-out
-    write-out-requires
-    same-length-2
+    (λ c κs. search needs)
+    (λ c. search needs)
     returns-2
-    loop-less
+    (λ c. search needs)
     loop-again
-    same-length-3
+    (λ c. search needs)
     returns-3)

@@ -23,24 +23,6 @@ further : (out : List ℕ) (at : ℕ) (text : List ℕ) (i : ℕ) → i < length
     set (sets out at (take i text)) (at + i) (getD text i 0) ≡ sets out at (take (i + 1) text)
 further out at text i h = rw (add-one, take-suc text i 0 h, ← sets-append, length-take-le i text (omega arith))
 
-loop-holds : tie.Need-loop-holds Inv-loop μ-loop
-loop-holds c = search needs
-
-shared-slice-read-out : tie.Need-shared-slice-read-out Inv-loop μ-loop
-shared-slice-read-out c = search needs
-
-add-out : tie.Need-add-out Inv-loop μ-loop
-add-out c = search needs
-
-slice-write-out : tie.Need-slice-write-out Inv-loop μ-loop
-slice-write-out c = search needs
-
-add-i : tie.Need-add-i Inv-loop μ-loop
-add-i c = search needs
-
-loop-less : tie.Need-loop-less Inv-loop μ-loop
-loop-less c = search needs
-
 loop-again : tie.Need-loop-again Inv-loop μ-loop
 loop-again c = (search needs, search needs, search needs, rw (c .before .before .loop .inv .3) (further _ _ _ _ (c .before .loop-test .taken)))
 
@@ -58,12 +40,12 @@ copy-spec =
     (tie.spec
     Inv-loop
     μ-loop
-    loop-holds
-    shared-slice-read-out
-    add-out
-    slice-write-out
-    add-i
-    loop-less
+    (λ c. search needs)
+    (λ c. search needs)
+    (λ c. search needs)
+    (λ c. search needs)
+    (λ c. search needs)
+    (λ c. search needs)
     loop-again
     same-length
     returns)

@@ -22,23 +22,14 @@ short c = decimal-64 (c .before .before .before .before .before .args .n) (omega
 returns : tie.Need-returns
 returns c = (put-nothing 21 _ _ _ (omega arith), search needs)
 
-sub-if2 : tie.Need-sub-if2
-sub-if2 c = search needs
-
 returns-2 : tie.Need-returns-2
 returns-2 c = (put-nothing 21 _ _ _ (omega arith), search needs)
-
-put-number-requires : tie.Need-put-number-requires
-put-number-requires c κs = search needs
 
 slice-write-out : tie.Need-slice-write-out
 slice-write-out c = omega (arith, number (c .before .before) .ends, short (c .before .before), written-length (number (c .before .before)))
 
 add-result : tie.Need-add-result
 add-result c = omega (arith, number (c .before .before) .ends, short (c .before .before))
-
-same-length : tie.Need-same-length
-same-length c = search needs
 
 returns-3 : tie.Need-returns-3
 returns-3 c = (
@@ -51,10 +42,10 @@ put-cell-spec =
     tie.close
     (tie.spec
     returns
-    sub-if2
+    (λ c. search needs)
     returns-2
-    put-number-requires
+    (λ c κs. search needs)
     slice-write-out
     add-result
-    same-length
+    (λ c. search needs)
     returns-3)

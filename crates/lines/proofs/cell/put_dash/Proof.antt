@@ -12,26 +12,11 @@ use Rattle.lines.proofs.cell.put_dash.Tie as tie
 returns : tie.Need-returns
 returns c = (put-nothing 2 _ _ _ (omega arith), search needs)
 
-sub-if2 : tie.Need-sub-if2
-sub-if2 c = search needs
-
 returns-2 : tie.Need-returns-2
 returns-2 c = (put-nothing 2 _ _ _ (omega arith), search needs)
 
-slice-write-out : tie.Need-slice-write-out
-slice-write-out c = search needs
-
-add-out : tie.Need-add-out
-add-out c = search needs
-
 slice-write-out-2 : tie.Need-slice-write-out-2
 slice-write-out-2 c = simp length-set (omega arith)
-
-add-result : tie.Need-add-result
-add-result c = search needs
-
-same-length : tie.Need-same-length
-same-length c = search needs
 
 returns-3 : tie.Need-returns-3
 returns-3 c = (put-written (omega arith) (record { stored = rw add-one; ends = refl }), search needs)
@@ -41,11 +26,11 @@ put-dash-spec =
     tie.close
     (tie.spec
     returns
-    sub-if2
+    (λ c. search needs)
     returns-2
-    slice-write-out
-    add-out
+    (λ c. search needs)
+    (λ c. search needs)
     slice-write-out-2
-    add-result
-    same-length
+    (λ c. search needs)
+    (λ c. search needs)
     returns-3)

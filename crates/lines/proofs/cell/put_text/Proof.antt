@@ -10,24 +10,12 @@ use Rattle.lines.proofs.cell.put_text.Tie as tie
 returns : tie.Need-returns
 returns c = put-nothing _ _ _ _ (omega arith)
 
-sub-if2 : tie.Need-sub-if2
-sub-if2 c = search needs
-
 returns-2 : tie.Need-returns-2
 returns-2 c = put-nothing _ _ _ _ (omega arith)
-
-copy-requires : tie.Need-copy-requires
-copy-requires c κs = search needs
-
-add-result : tie.Need-add-result
-add-result c = search needs
-
-same-length : tie.Need-same-length
-same-length c = search needs
 
 returns-3 : tie.Need-returns-3
 returns-3 c = put-written (omega arith) (record { stored = c .before .before .copy .ensures; ends = refl })
 
 pub put-text-spec : {M : Type 1} → statement M
 put-text-spec =
-    tie.close (tie.spec returns sub-if2 returns-2 copy-requires add-result same-length returns-3)
+    tie.close (tie.spec returns (λ c. search needs) returns-2 (λ c κs. search needs) (λ c. search needs) (λ c. search needs) returns-3)

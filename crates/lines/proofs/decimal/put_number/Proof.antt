@@ -10,17 +10,11 @@ use Rattle.lines.proofs.decimal.put_number.Tie as tie
 returns : tie.Need-returns
 returns c = put-nothing 20 _ _ _ (omega arith)
 
-sub-if2 : tie.Need-sub-if2
-sub-if2 c = search needs
-
 returns-2 : tie.Need-returns-2
 returns-2 c = put-nothing 20 _ _ _ (omega arith)
 
 put-digits-requires : tie.Need-put-digits-requires
 put-digits-requires c κs = omega (arith, decimal-64 (c .before .before .before .before .args .n) (omega arith))
-
-same-length : tie.Need-same-length
-same-length c = search needs
 
 returns-3 : tie.Need-returns-3
 returns-3 c =
@@ -28,4 +22,4 @@ returns-3 c =
 
 pub put-number-spec : {M : Type 1} → statement M
 put-number-spec =
-    tie.close (tie.spec returns sub-if2 returns-2 put-digits-requires same-length returns-3)
+    tie.close (tie.spec returns (λ c. search needs) returns-2 put-digits-requires (λ c. search needs) returns-3)

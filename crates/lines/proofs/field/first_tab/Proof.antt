@@ -28,20 +28,8 @@ further : (s : List ℕ) (i : ℕ) → i < length s → (getD s i 0 ≡ 9 → �
 unfolding byteAt
 further s i h n = rw (drop-cons s i 0, ne-eqb _ _ n, add-one) (omega arith)
 
-loop-holds : tie.Need-loop-holds Inv-loop μ-loop
-loop-holds c = search needs
-
-shared-slice-read-if1 : tie.Need-shared-slice-read-if1 Inv-loop μ-loop
-shared-slice-read-if1 c = search needs
-
 returns : tie.Need-returns Inv-loop μ-loop
 returns c = sym (c .before .before .before .loop .inv .2 ∙ rw (here _ _ (c .before .before .loop-test .taken) (c .if1 .taken), add-zero))
-
-add-i : tie.Need-add-i Inv-loop μ-loop
-add-i c = search needs
-
-loop-less : tie.Need-loop-less Inv-loop μ-loop
-loop-less c = search needs
 
 loop-again : tie.Need-loop-again Inv-loop μ-loop
 loop-again c = (search needs, search needs, c .before .before .before .loop .inv .2 ∙ further _ _ (c .before .before .loop-test .taken) (c .if1 .left))
@@ -58,10 +46,10 @@ first-tab-spec =
     (tie.spec
     Inv-loop
     μ-loop
-    loop-holds
-    shared-slice-read-if1
+    (λ c. search needs)
+    (λ c. search needs)
     returns
-    add-i
-    loop-less
+    (λ c. search needs)
+    (λ c. search needs)
     loop-again
     returns-2)

@@ -4,9 +4,6 @@ use borrow.Author.Needs.{needs}
 use Rattle.lines.proofs.field.is_dash.Statement.{statement}
 use Rattle.lines.proofs.field.is_dash.Tie as tie
 
-shared-slice-read-result : tie.Need-shared-slice-read-result
-shared-slice-read-result c = search needs
-
 returns : tie.Need-returns
 returns c = rw (eq-eqb _ _ (c .before .if1 .taken))
 
@@ -14,4 +11,4 @@ returns-2 : tie.Need-returns-2
 returns-2 c = rw (ne-eqb _ _ (c .if1 .left))
 
 pub is-dash-spec : {M : Type 1} → statement M
-is-dash-spec = tie.close (tie.spec shared-slice-read-result returns returns-2)
+is-dash-spec = tie.close (tie.spec (λ c. search needs) returns returns-2)

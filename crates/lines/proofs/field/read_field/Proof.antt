@@ -3,17 +3,8 @@ use borrow.Author.Needs.{needs}
 use Rattle.lines.proofs.field.read_field.Statement.{statement}
 use Rattle.lines.proofs.field.read_field.Tie as tie
 
-is-dash-requires : tie.Need-is-dash-requires
-is-dash-requires c κs = search needs
-
 returns : tie.Need-returns
 returns c = rw (← c .before .is-dash .ensures, c .if1 .taken)
-
-read-number-requires : tie.Need-read-number-requires
-read-number-requires c κs = search needs
-
-enum-known-n : tie.Need-enum-known-n
-enum-known-n c = search needs
 
 enum-told : tie.Need-enum-told
 enum-told c = search needs
@@ -28,10 +19,10 @@ pub read-field-spec : {M : Type 1} → statement M
 read-field-spec =
     tie.close
     (tie.spec
-    is-dash-requires
+    (λ c κs. search needs)
     returns
-    read-number-requires
-    enum-known-n
+    (λ c κs. search needs)
+    (λ c. search needs)
     enum-told
     returns-2
     returns-3)

@@ -71,9 +71,6 @@ returns-3 c = sym (long (c .before .before .before .args .most) (c .before .befo
 loop-holds : tie.Need-loop-holds Inv-loop μ-loop
 loop-holds c = (search needs, search needs, search needs, search needs, right (c .before .before .before .args .most) (c .before .before .before .args .s .now) (omega arith) (omega arith))
 
-shared-slice-read-b : tie.Need-shared-slice-read-b Inv-loop μ-loop
-shared-slice-read-b c = search needs
-
 returns-4 : tie.Need-returns-4 Inv-loop μ-loop
 returns-4 c = sym (c .before .before .before .loop .inv .4 ∙ low _ _ _ (c .before .before .loop-test .taken) (c .if4 .taken))
 
@@ -88,12 +85,6 @@ cast-value c = omega arith
 
 add-value : tie.Need-add-value Inv-loop μ-loop
 add-value c = omega (arith, small c)
-
-add-i : tie.Need-add-i Inv-loop μ-loop
-add-i c = search needs
-
-loop-less : tie.Need-loop-less Inv-loop μ-loop
-loop-less c = search needs
 
 loop-again : tie.Need-loop-again Inv-loop μ-loop
 loop-again c = (
@@ -120,13 +111,13 @@ read-number-spec =
     returns-2
     returns-3
     loop-holds
-    shared-slice-read-b
+    (λ c. search needs)
     returns-4
     returns-5
     mul-value
     cast-value
     add-value
-    add-i
-    loop-less
+    (λ c. search needs)
+    (λ c. search needs)
     loop-again
     returns-6)

@@ -11,23 +11,11 @@ use Rattle.listing.proofs.machine.put_held.Tie as tie
 size : (c : tie.After-bytes) → length (c .before .before .before .args .held .bytes) ≡ 32
 size c = search needs
 
-count-requires : tie.Need-count-requires
-count-requires c κs = search needs
-
 array-share-prefix-bytes : tie.Need-array-share-prefix-bytes
 array-share-prefix-bytes c = omega (arith, size c)
 
 slice-aggregate-answer-line : tie.Need-slice-aggregate-answer-line
 slice-aggregate-answer-line c = sym (length-take-le _ _ (omega (arith, size (c .before))))
-
-answer-line-requires : tie.Need-answer-line-requires
-answer-line-requires c κs = search needs
-
-put-row-requires : tie.Need-put-row-requires
-put-row-requires c κs = search needs
-
-same-length : tie.Need-same-length
-same-length c = search needs
 
 returns : tie.Need-returns
 returns c =
@@ -39,10 +27,10 @@ pub put-held-spec : {M : Type 1} → statement M
 put-held-spec =
     tie.close
     (tie.spec
-    count-requires
+    (λ c κs. search needs)
     array-share-prefix-bytes
     slice-aggregate-answer-line
-    answer-line-requires
-    put-row-requires
-    same-length
+    (λ c κs. search needs)
+    (λ c κs. search needs)
+    (λ c. search needs)
     returns)

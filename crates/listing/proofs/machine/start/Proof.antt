@@ -6,12 +6,6 @@ use borrow.Author.Needs.{needs}
 use Rattle.listing.proofs.machine.start.Statement.{statement}
 use Rattle.listing.proofs.machine.start.Tie as tie
 
-slice-aggregate-put-text : tie.Need-slice-aggregate-put-text
-slice-aggregate-put-text c = search needs
-
-put-text-requires : tie.Need-put-text-requires
-put-text-requires c κs = search needs
-
 returns : tie.Need-returns
 returns c =
     let w = written (c .put-text .ensures) (omega arith) in
@@ -19,4 +13,4 @@ returns c =
 
 pub start-spec : {M : Type 1} → statement M
 start-spec =
-    tie.close (tie.spec slice-aggregate-put-text put-text-requires returns)
+    tie.close (tie.spec (λ c. search needs) (λ c κs. search needs) returns)

@@ -10,39 +10,12 @@ use borrow.Author.Needs.{needs}
 use Rattle.listing.proofs.row.answer_line.Statement.{statement}
 use Rattle.listing.proofs.row.answer_line.Tie as tie
 
-first-tab-requires : tie.Need-first-tab-requires
-first-tab-requires c κs = search needs
-
-refused-row-requires : tie.Need-refused-row-requires
-refused-row-requires c κs = search needs
-
 returns : tie.Need-returns
 unfolding answerTo
 returns c = rw (c .refused-row .ensures, ← c .before .before .first-tab .ensures, le-ltb _ _ (c .before .if1 .taken))
 
 slice-aggregate-read-field : tie.Need-slice-aggregate-read-field
 slice-aggregate-read-field c = sym (length-take-le _ _ (omega arith))
-
-read-field-requires : tie.Need-read-field-requires
-read-field-requires c κs = search needs
-
-add-read-field : tie.Need-add-read-field
-add-read-field c = search needs
-
-sub-read-field : tie.Need-sub-read-field
-sub-read-field c = search needs
-
-part-read-field-start : tie.Need-part-read-field-start
-part-read-field-start c = search needs
-
-part-read-field-end : tie.Need-part-read-field-end
-part-read-field-end c = search needs
-
-read-field-requires-2 : tie.Need-read-field-requires-2
-read-field-requires-2 c κs = search needs
-
-look-up-requires : tie.Need-look-up-requires
-look-up-requires c κs = search needs
 
 returns-2 : tie.Need-returns-2
 unfolding answerTo
@@ -63,15 +36,15 @@ pub answer-line-spec : {M : Type 1} → statement M
 answer-line-spec =
     tie.close
     (tie.spec
-    first-tab-requires
-    refused-row-requires
+    (λ c κs. search needs)
+    (λ c κs. search needs)
     returns
     slice-aggregate-read-field
-    read-field-requires
-    add-read-field
-    sub-read-field
-    part-read-field-start
-    part-read-field-end
-    read-field-requires-2
-    look-up-requires
+    (λ c κs. search needs)
+    (λ c. search needs)
+    (λ c. search needs)
+    (λ c. search needs)
+    (λ c. search needs)
+    (λ c κs. search needs)
+    (λ c κs. search needs)
     returns-2)

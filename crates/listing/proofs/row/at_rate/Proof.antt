@@ -6,42 +6,6 @@ use Rattle.listing.proofs.row.at_rate.Tie as tie
 enum-told : tie.Need-enum-told
 enum-told c = search needs
 
-row-of-requires : tie.Need-row-of-requires
-row-of-requires c κs = search needs
-
-enum-told-2 : tie.Need-enum-told-2
-enum-told-2 c = search needs
-
-enum-told-3 : tie.Need-enum-told-3
-enum-told-3 c = search needs
-
-refused-row-requires : tie.Need-refused-row-requires
-refused-row-requires c κs = search needs
-
-enum-known-index : tie.Need-enum-known-index
-enum-known-index c = search needs
-
-row-of-requires-2 : tie.Need-row-of-requires-2
-row-of-requires-2 c κs = search needs
-
-enum-known-fs : tie.Need-enum-known-fs
-enum-known-fs c = search needs
-
-lag-row-requires : tie.Need-lag-row-requires
-lag-row-requires c κs = search needs
-
-enum-told-4 : tie.Need-enum-told-4
-enum-told-4 c = search needs
-
-refused-row-requires-2 : tie.Need-refused-row-requires-2
-refused-row-requires-2 c κs = search needs
-
-enum-told-5 : tie.Need-enum-told-5
-enum-told-5 c = search needs
-
-refused-row-requires-3 : tie.Need-refused-row-requires-3
-refused-row-requires-3 c κs = search needs
-
 returns : tie.Need-returns
 returns c = rw (c .before .before .before .enum-told .given .1, ← c .before .before .row-of .ensures, c .enum-told2 .given .1)
 
@@ -62,18 +26,18 @@ at-rate-spec =
     tie.close
     (tie.spec
     enum-told
-    row-of-requires
-    enum-told-2
-    enum-told-3
-    refused-row-requires
-    enum-known-index
-    row-of-requires-2
-    enum-known-fs
-    lag-row-requires
-    enum-told-4
-    refused-row-requires-2
-    enum-told-5
-    refused-row-requires-3
+    (λ c κs. search needs)
+    (λ c. search needs)
+    (λ c. search needs)
+    (λ c κs. search needs)
+    (λ c. search needs)
+    (λ c κs. search needs)
+    (λ c. search needs)
+    (λ c κs. search needs)
+    (λ c. search needs)
+    (λ c κs. search needs)
+    (λ c. search needs)
+    (λ c κs. search needs)
     returns
     returns-2
     returns-3

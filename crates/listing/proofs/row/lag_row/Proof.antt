@@ -3,17 +3,8 @@ use borrow.Author.Needs.{needs}
 use Rattle.listing.proofs.row.lag_row.Statement.{statement}
 use Rattle.listing.proofs.row.lag_row.Tie as tie
 
-compute-filter-parameters-requires : tie.Need-compute-filter-parameters-requires
-compute-filter-parameters-requires c κs = search needs
-
-enum-known-lag : tie.Need-enum-known-lag
-enum-known-lag c = search needs
-
 enum-told : tie.Need-enum-told
 enum-told c = search needs
-
-refused-row-requires : tie.Need-refused-row-requires
-refused-row-requires c κs = search needs
 
 returns : tie.Need-returns
 returns c = rw (← c .before .before .before .compute-filter-parameters .ensures, c .before .lag .given .1)
@@ -25,9 +16,9 @@ pub lag-row-spec : {M : Type 1} → statement M
 lag-row-spec =
     tie.close
     (tie.spec
-    compute-filter-parameters-requires
-    enum-known-lag
+    (λ c κs. search needs)
+    (λ c. search needs)
     enum-told
-    refused-row-requires
+    (λ c κs. search needs)
     returns
     returns-2)

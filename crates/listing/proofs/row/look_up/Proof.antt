@@ -6,21 +6,6 @@ use Rattle.listing.proofs.row.look_up.Tie as tie
 enum-told : tie.Need-enum-told
 enum-told c = search needs
 
-at-rate-requires : tie.Need-at-rate-requires
-at-rate-requires c κs = search needs
-
-enum-known-rate : tie.Need-enum-known-rate
-enum-known-rate c = search needs
-
-at-rate-requires-2 : tie.Need-at-rate-requires-2
-at-rate-requires-2 c κs = search needs
-
-enum-told-2 : tie.Need-enum-told-2
-enum-told-2 c = search needs
-
-refused-row-requires : tie.Need-refused-row-requires
-refused-row-requires c κs = search needs
-
 returns : tie.Need-returns
 returns c = rw (c .at-rate .ensures, c .before .enum-told .given .1)
 
@@ -35,11 +20,11 @@ look-up-spec =
     tie.close
     (tie.spec
     enum-told
-    at-rate-requires
-    enum-known-rate
-    at-rate-requires-2
-    enum-told-2
-    refused-row-requires
+    (λ c κs. search needs)
+    (λ c. search needs)
+    (λ c κs. search needs)
+    (λ c. search needs)
+    (λ c κs. search needs)
     returns
     returns-2
     returns-3)

@@ -30,17 +30,8 @@ loop-holds c = going-first _ _ _ _ _
 sub-if1 : tie.Need-sub-if1 Inv-loop μ-loop
 sub-if1 c = omega (arith, c .before .loop .inv .fits)
 
-take-line-requires : tie.Need-take-line-requires Inv-loop μ-loop
-take-line-requires c κs = search needs
-
 put-held-requires : tie.Need-put-held-requires Inv-loop μ-loop
 put-held-requires c κs = omega (arith, space (c .before .before .before .before))
-
-wrapping-add-u64-requires : tie.Need-wrapping-add-u64-requires Inv-loop μ-loop
-wrapping-add-u64-requires c κs = search needs
-
-add-used : tie.Need-add-used Inv-loop μ-loop
-add-used c = search needs
 
 loop-less : tie.Need-loop-less Inv-loop μ-loop
 loop-less c = omega (arith, onward (c .before .before .before .before .before .before .before .before))
@@ -53,24 +44,15 @@ loop-again c =
     (c .before .before .before .before .before .before .if2 .taken) (c .before .before .before .before .put-held .ensures .0)
     (c .before .before .before .before .put-held .ensures .1))
 
-loop-less-2 : tie.Need-loop-less-2 Inv-loop μ-loop
-loop-less-2 c = search needs
-
 loop-again-2 : tie.Need-loop-again-2 Inv-loop μ-loop
 loop-again-2 c =
     let t = c .before .before in
     going-held _ _ _ _ _ _ _ _ _ _ (t .before .before .before .loop .inv) _ (space (t .before)) (t .take-line .ensures)
 
-same-length : tie.Need-same-length Inv-loop μ-loop
-same-length c = search needs
-
 returns : tie.Need-returns Inv-loop μ-loop
 returns c =
     let g = c .before .before .loop .inv in
     (going-full _ _ _ _ _ _ _ _ _ _ g (leb-false _ _ (c .if1 .left)), (cc, (g .wrote, (g .within, omega arith))))
-
-same-length-2 : tie.Need-same-length-2 Inv-loop μ-loop
-same-length-2 c = search needs
 
 returns-2 : tie.Need-returns-2 Inv-loop μ-loop
 returns-2 c =
@@ -85,15 +67,15 @@ feed-spec =
     μ-loop
     loop-holds
     sub-if1
-    take-line-requires
+    (λ c κs. search needs)
     put-held-requires
-    wrapping-add-u64-requires
-    add-used
+    (λ c κs. search needs)
+    (λ c. search needs)
     loop-less
     loop-again
-    loop-less-2
+    (λ c. search needs)
     loop-again-2
-    same-length
+    (λ c. search needs)
     returns
-    same-length-2
+    (λ c. search needs)
     returns-2)

@@ -11,12 +11,9 @@ returns : tie.Need-returns
 unfolding lastText
 returns c = rw (eq-eqb _ _ (c .if1 .taken)) (record { stored = refl; ends = refl }, search needs)
 
-put-held-requires : tie.Need-put-held-requires
-put-held-requires c κs = search needs
-
 returns-2 : tie.Need-returns-2
 unfolding lastText
 returns-2 c = rw (ne-eqb _ _ (c .before .before .if1 .left)) (c .put-held .ensures .0, c .put-held .ensures .1)
 
 pub finish-spec : {M : Type 1} → statement M
-finish-spec = tie.close (tie.spec returns put-held-requires returns-2)
+finish-spec = tie.close (tie.spec returns (λ c κs. search needs) returns-2)

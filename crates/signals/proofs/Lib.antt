@@ -1,0 +1,6 @@
+-- What follows from the definitions of the signals, and what their proofs share.
+pub mod Fronts
+pub mod Rows
+pub mod Steps
+pub mod Silent
+pub mod SilentSignals
