@@ -8,16 +8,11 @@
 
 enum { MAX_FRAME = 480 };
 
-// A rate and duration, with the lengths and the decoder's coefficients that go with them.
+// A rate and duration, with the samples of a frame.
 struct setting {
     uint32_t rate, duration;
     size_t frame;
-    const float *numerators, *denominators;
-    size_t numerator_count, denominator_count;
 };
-
-// The encoder's coefficients.
-extern const float *const resampling_row, *const correlation_row, *const signal_row;
 
 // A frame's side information: an active frame has a pitch, an inactive one has none.
 struct side {
@@ -32,7 +27,8 @@ struct record {
 
 // An engine holds one decoder and one encoder. The samples go to where `decoder_samples` or `encoder_samples`
 // points before each frame; a decoder's output stands in the same place afterwards. Only the two frame
-// functions are timed.
+// functions are timed. What both ends remember can be kept and put back, so that one frame is run many times;
+// liblc3 is not asked for that.
 struct engine {
     const char *name;
     // Whether its results have to equal the Rust's; otherwise they have to be near.
@@ -43,6 +39,8 @@ struct engine {
     float *(*decoder_frame)(const struct side *side);
     int16_t *(*encoder_samples)(void);
     void (*encoder_frame)(uint32_t nbits, struct record *record);
+    void (*keep_state)(void);
+    void (*put_state_back)(void);
 };
 
 extern const struct engine rust_engine, liblc3_engine, our_engine;

@@ -69,5 +69,5 @@ static void encoder_frame(uint32_t nbits, struct record *record)
 }
 
 const struct engine liblc3_engine = {
-    "liblc3", false, start, decoder_samples, decoder_frame, encoder_samples, encoder_frame,
+    "liblc3", false, start, decoder_samples, decoder_frame, encoder_samples, encoder_frame, NULL, NULL,
 };

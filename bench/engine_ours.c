@@ -1,11 +1,17 @@
-// Our library, through include/nabiteke.h.
-#include "engine_ours.h"
+// Our library, through include/nabiteke.h, with the published coefficients.
+#include "engine.h"
+#include "nabiteke_published.h"
 #include <stdio.h>
 #include <stdlib.h>
 
-struct our_state our_state;
+static struct {
+    nabiteke_decoder decoder;
+    nabiteke_encoder encoder;
+} state, kept;
 
-static const struct setting *now;
+static nabiteke_rows rows;
+static nabiteke_sets sets;
+static size_t frame;
 static float decoder_buffer[MAX_FRAME];
 static int16_t encoder_buffer[MAX_FRAME];
 
@@ -19,9 +25,11 @@ static void demand_done(uint32_t answer)
 
 static bool start(const struct setting *setting)
 {
-    now = setting;
-    demand_done(nabiteke_decoder_start(&our_state.decoder, setting->rate, setting->duration));
-    demand_done(nabiteke_encoder_start(&our_state.encoder, setting->rate, setting->duration));
+    rows = nabiteke_published_rows(setting->rate);
+    sets = nabiteke_published_sets();
+    frame = nabiteke_frame_length(setting->rate, setting->duration);
+    demand_done(nabiteke_decoder_start(&state.decoder, setting->rate, setting->duration));
+    demand_done(nabiteke_encoder_start(&state.encoder, setting->rate, setting->duration));
     return true;
 }
 
@@ -32,9 +40,8 @@ static float *decoder_samples(void)
 
 static float *decoder_frame(const struct side *side)
 {
-    demand_done(nabiteke_decoder_frame(&our_state.decoder, now->numerators, now->numerator_count, now->denominators,
-                                       now->denominator_count, side->active, side->index, side->active, side->nbits,
-                                       decoder_buffer, now->frame));
+    nabiteke_pitch pitch = {side->active, side->index, side->active};
+    demand_done(nabiteke_decoder_frame(&state.decoder, &rows, pitch, side->nbits, decoder_buffer, frame));
     return decoder_buffer;
 }
 
@@ -46,11 +53,21 @@ static int16_t *encoder_samples(void)
 static void encoder_frame(uint32_t nbits, struct record *record)
 {
     nabiteke_record given;
-    demand_done(nabiteke_encoder_frame(&our_state.encoder, resampling_row, 239, correlation_row, 31, signal_row, 15,
-                                       encoder_buffer, now->frame, nbits, 0, &given));
-    *record = (struct record){given.present, given.index, given.active};
+    demand_done(nabiteke_encoder_frame(&state.encoder, &sets, nbits, encoder_buffer, frame, 0, &given));
+    *record = (struct record){given.pitch.present, given.pitch.index, given.pitch.active};
+}
+
+static void keep_state(void)
+{
+    kept = state;
+}
+
+static void put_state_back(void)
+{
+    state = kept;
 }
 
 const struct engine our_engine = {
-    "ours", true, start, decoder_samples, decoder_frame, encoder_samples, encoder_frame,
+    "ours",          true,          start,      decoder_samples, decoder_frame,
+    encoder_samples, encoder_frame, keep_state, put_state_back,
 };

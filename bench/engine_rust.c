@@ -1,14 +1,23 @@
 // The given Rust, through the C face of bench/rust.
 #include "engine.h"
+#include <stdlib.h>
+#include <string.h>
 
-void *rust_decoder_start(uint32_t rate, uint32_t duration);
+// A piece of what an end remembers.
+struct piece {
+    void *start;
+    size_t bytes;
+};
+
+void *rust_decoder_start(uint32_t rate, uint32_t duration, struct piece pieces[2]);
 void rust_decoder_frame(void *decoder, uint32_t present, uint32_t index, uint32_t active, uint32_t nbits,
                         float *samples, size_t count);
-void *rust_encoder_start(uint32_t rate, uint32_t duration);
+void *rust_encoder_start(uint32_t rate, uint32_t duration, struct piece pieces[3]);
 void rust_encoder_frame(void *encoder, const int16_t *samples, size_t count, uint32_t nbits,
                         uint32_t near_nyquist, uint32_t *record);
 
 static void *decoder, *encoder;
+static struct piece pieces[5], kept[5];
 static size_t frame;
 static float decoder_buffer[MAX_FRAME];
 static int16_t encoder_buffer[MAX_FRAME];
@@ -16,8 +25,14 @@ static int16_t encoder_buffer[MAX_FRAME];
 static bool start(const struct setting *setting)
 {
     frame = setting->frame;
-    decoder = rust_decoder_start(setting->rate, setting->duration);
-    encoder = rust_encoder_start(setting->rate, setting->duration);
+    decoder = rust_decoder_start(setting->rate, setting->duration, pieces);
+    encoder = rust_encoder_start(setting->rate, setting->duration, pieces + 2);
+    for (int i = 0; i < 5; i++) {
+        kept[i].start = realloc(kept[i].start, pieces[i].bytes);
+        kept[i].bytes = pieces[i].bytes;
+        if (kept[i].start == NULL)
+            exit(1);
+    }
     return true;
 }
 
@@ -47,6 +62,19 @@ static void encoder_frame(uint32_t nbits, struct record *record)
     record->active = numbers[0] ? numbers[2] : 0;
 }
 
+static void keep_state(void)
+{
+    for (int i = 0; i < 5; i++)
+        memcpy(kept[i].start, pieces[i].start, pieces[i].bytes);
+}
+
+static void put_state_back(void)
+{
+    for (int i = 0; i < 5; i++)
+        memcpy(pieces[i].start, kept[i].start, pieces[i].bytes);
+}
+
 const struct engine rust_engine = {
-    "Rust", true, start, decoder_samples, decoder_frame, encoder_samples, encoder_frame,
+    "Rust",          true,          start,      decoder_samples, decoder_frame,
+    encoder_samples, encoder_frame, keep_state, put_state_back,
 };

@@ -3,22 +3,13 @@
 #include "cases.h"
 #include "measure.h"
 #include "slowest.h"
-#include "tables.h"
 #include <stdio.h>
 
-#define ROWS(rate) \
-    numerator_##rate.values, denominator_##rate.values, sizeof numerator_##rate / 4, sizeof denominator_##rate / 4
-
 static const struct setting settings[] = {
-    {8000, 10000, 80, ROWS(8000)},    {8000, 7500, 60, ROWS(8000)},     {16000, 10000, 160, ROWS(16000)},
-    {16000, 7500, 120, ROWS(16000)},  {24000, 10000, 240, ROWS(24000)}, {24000, 7500, 180, ROWS(24000)},
-    {32000, 10000, 320, ROWS(32000)}, {32000, 7500, 240, ROWS(32000)},  {44100, 10000, 480, ROWS(48000)},
-    {44100, 7500, 360, ROWS(48000)},  {48000, 10000, 480, ROWS(48000)}, {48000, 7500, 360, ROWS(48000)},
+    {8000, 10000, 80},   {8000, 7500, 60},   {16000, 10000, 160}, {16000, 7500, 120},
+    {24000, 10000, 240}, {24000, 7500, 180}, {32000, 10000, 320}, {32000, 7500, 240},
+    {44100, 10000, 480}, {44100, 7500, 360}, {48000, 10000, 480}, {48000, 7500, 360},
 };
-
-const float *const resampling_row = resampling.values;
-const float *const correlation_row = correlation_interpolation.values;
-const float *const signal_row = signal_interpolation.values;
 
 // A target holds where its worst row does. `worst` is 0 until a row was seen.
 struct target {
@@ -27,7 +18,7 @@ struct target {
     double limit, worst;
 };
 
-enum { FIVE_TIMES, LIBLC3, THREE_TIMES, COPY, FOUR_TIMES, SLOWEST, TARGETS };
+enum { FIVE_TIMES, LIBLC3, THREE_TIMES, COPY, FOUR_TIMES, SHARE, SLOWEST, TARGETS };
 
 static struct target targets[TARGETS] = {
     {"decoder at 48000, cases 2, 4 and 5: times as fast as the Rust", false, 5, 0},
@@ -35,7 +26,8 @@ static struct target targets[TARGETS] = {
     {"decoder at 8000 and 16000, cases 2, 4 and 5: times as fast as the Rust", false, 3, 0},
     {"decoder at 48000, case 1: nanoseconds", true, 400, 0},
     {"encoder at every rate: times as fast as the Rust", false, 4, 0},
-    {"slowest frame over the typical one of its case", true, 3, 0},
+    {"slowest frame: percent of its duration", true, 2, 0},
+    {"slowest frame of each end, rate and duration: times what the Rust takes for the same frame", true, 1.2, 0},
 };
 
 static void hold(int which, double value)
@@ -43,6 +35,11 @@ static void hold(int which, double value)
     struct target *target = &targets[which];
     if (target->worst == 0 || (target->is_upper ? value > target->worst : value < target->worst))
         target->worst = value;
+}
+
+static double percent_of_duration(const struct setting *setting, struct slowest slowest)
+{
+    return slowest.ns / (setting->duration * 1e3) * 100;
 }
 
 static void hold_decoder(const struct setting *setting, int which, double rust, double liblc3, double ours)
@@ -59,6 +56,13 @@ static void hold_decoder(const struct setting *setting, int which, double rust, 
         hold(LIBLC3, liblc3 / ours);
 }
 
+// The slowest frame of an end at a rate and duration.
+static void hold_slowest(const struct setting *setting, struct slowest slowest)
+{
+    hold(SHARE, percent_of_duration(setting, slowest));
+    hold(SLOWEST, slowest.ns / slowest.rust_ns);
+}
+
 // A cell of liblc3's: nothing where it is left out, a dash where it does not know the rate.
 static void print_liblc3(const char *format, double value)
 {
@@ -73,9 +77,10 @@ static void print_liblc3(const char *format, double value)
 static void print_head(void)
 {
     bool is_in = engine_count == MAX_ENGINES;
-    printf("| Hz | ms | what | Rust ns |%s ours ns | Rust / ours |%s slowest / typical |\n",
-           is_in ? " liblc3 ns |" : "", is_in ? " liblc3 / ours |" : "");
-    printf("|---|---|---|---|---|---|---|%s\n", is_in ? "---|---|" : "");
+    printf("| Hz | ms | what | Rust ns |%s ours ns | Rust / ours |%s", is_in ? " liblc3 ns |" : "",
+           is_in ? " liblc3 / ours |" : "");
+    printf(" slowest frame, of its duration | slowest / Rust |\n");
+    printf("|---|---|---|---|---|---|---|---|%s\n", is_in ? "---|---|" : "");
 }
 
 static void print_row(const struct setting *setting, const char *what, double rust, double liblc3, double ours,
@@ -85,10 +90,8 @@ static void print_row(const struct setting *setting, const char *what, double ru
     print_liblc3(" %.0f |", liblc3);
     printf(" %.0f | %.2f |", ours, rust / ours);
     print_liblc3(" %.2f |", liblc3 / ours);
-    if (slowest.ratio > 0)
-        printf(" %.2f (%s) |\n", slowest.ratio, slowest.signal);
-    else
-        printf(" as above |\n");
+    printf(" %.2g%% (%s) | %.2f |\n", percent_of_duration(setting, slowest), slowest.signal,
+           slowest.ns / slowest.rust_ns);
     fflush(stdout);
 }
 
@@ -96,20 +99,23 @@ static void print_row(const struct setting *setting, const char *what, double ru
 static void measure_setting(const struct setting *setting)
 {
     char what[32];
+    struct slowest slowest_case = {0, 0, ""};
     for (int which = 1; which <= CASES; which++) {
         struct times times = measure_decoder(setting, which);
         struct slowest slowest = slowest_decoder(setting, which);
         snprintf(what, sizeof what, "decoder case %d", which);
         print_row(setting, what, times.ns[0], times.ns[2], times.ns[1], slowest);
         hold_decoder(setting, which, times.ns[0], times.ns[2], times.ns[1]);
-        hold(SLOWEST, slowest.ratio);
+        if (slowest.ns > slowest_case.ns)
+            slowest_case = slowest;
     }
+    hold_slowest(setting, slowest_case);
     struct slowest slowest = slowest_encoder(setting);
-    hold(SLOWEST, slowest.ratio);
+    hold_slowest(setting, slowest);
     for (int is_voiced = 1; is_voiced >= 0; is_voiced--) {
         struct times times = measure_encoder(setting, is_voiced);
         print_row(setting, is_voiced ? "encoder, voiced" : "encoder, noise", times.ns[0], times.ns[2], times.ns[1],
-                  is_voiced ? slowest : (struct slowest){0, ""});
+                  slowest);
         hold(FOUR_TIMES, times.ns[0] / times.ns[1]);
     }
 }
@@ -121,7 +127,7 @@ static void print_listing(const char *speed)
     print_liblc3(" - |", 0);
     printf(" %s MB/s | - |", speed);
     print_liblc3(" - |", 0);
-    printf(" - |\n");
+    printf(" - | - |\n");
 }
 
 static void print_targets(void)

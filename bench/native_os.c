@@ -21,12 +21,12 @@ size_t rattle_arg_count(void)
 }
 
 // Argument i and its length, or -1 where there is none, -2 where it does not fit.
-intptr_t rattle_arg(size_t i, uint8_t *buffer, size_t room)
+intptr_t rattle_arg(size_t i, uint8_t *buffer, size_t space)
 {
     if (i >= count)
         return -1;
     size_t length = strlen(words[i]);
-    if (length > room)
+    if (length > space)
         return -2;
     memcpy(buffer, words[i], length);
     return (intptr_t)length;

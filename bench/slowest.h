@@ -1,12 +1,12 @@
-// Our slowest frame of a case against its typical one, over many kinds of input.
+// Our slowest frame of a case over many kinds of input, against its duration and against the Rust on the same frame.
 #ifndef SLOWEST_H
 #define SLOWEST_H
 
 #include "engine.h"
 
-// How many times as long as the typical frame the slowest one took, and the name of its signal.
+// What the slowest frame took, what the Rust took for it, and the name of its signal.
 struct slowest {
-    double ratio;
+    double ns, rust_ns;
     const char *signal;
 };
 

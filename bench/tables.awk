@@ -1,6 +1,5 @@
-# The published coefficients, from the bits that published_run writes, as source text:
-# awk -v language=rust|c -f tables.awk crates/published_run/stdout
-# In C each table is a union of its bits and its floats; in Rust an array under the given files' name.
+# The published coefficients, from the bits that published_run writes, as Rust text under the given files' names:
+# awk -f tables.awk crates/published_run/stdout
 function rust_name(table) {
     if (table == "resampling") return "TAB_RESAMP_FILTER"
     if (table == "correlation_interpolation") return "TAB_LTPF_INTERP_R"
@@ -11,21 +10,19 @@ function rust_name(table) {
 }
 function finish() {
     if (entry != count) failed = 1
-    else if (count) print language == "c" ? "}};" : (rows ? "]];" : "];")
+    else if (count) print rows ? "]];" : "];"
 }
 NF == 2 {
     finish()
     if (failed) exit
     count = $2; entry = 0; rows = $1 ~ /_[0-9]+$/; row = count / 4
-    if (language == "c")
-        printf "static const union { uint32_t bits[%d]; float values[%d]; } %s = {{\n", count, count, $1
-    else if (rows) printf "pub static %s: [[f32; %d]; 4] = [[\n", rust_name($1), row
+    if (rows) printf "pub static %s: [[f32; %d]; 4] = [[\n", rust_name($1), row
     else printf "pub static %s: [f32; %d] = [\n", rust_name($1), count
     next
 }
 NF == 1 && $1 ~ /^[0-9a-f]+$/ && length($1) == 8 {
-    if (language == "rust" && rows && entry && entry % row == 0) print "], ["
-    printf language == "c" ? "0x%s,\n" : "f32::from_bits(0x%s),\n", $1
+    if (rows && entry && entry % row == 0) print "], ["
+    printf "f32::from_bits(0x%s),\n", $1
     entry++
     next
 }

@@ -1,26 +1,33 @@
 /*
  * Nabiteke: the long-term post filter of the LC3 codec, proved.
  * Build the archive with `rt staticlib nabiteke` and link target/staticlib/libnabiteke.a (Linux, x86-64). It needs
- * nothing but memcpy and memset.
+ * nothing but memcpy and memset. This header is C99 and C++11.
  *
  * How to use it
  *
  *   Keep a nabiteke_decoder or a nabiteke_encoder for each stream, start it, then make one call a frame.
- *   Every call answers with a number of enum nabiteke_answer, NABITEKE_DONE when all went well.
+ *   Every start, frame and loss mark answers with a number of enum nabiteke_answer, NABITEKE_DONE when all went well.
+ *   nabiteke_published.h has the standard's coefficients, which the frame calls are lent.
  *
- *   Flags are 0 for no and anything else for yes. Rates are in Hz, durations in microseconds.
- *   A frame of 10000 us has 80, 160, 240, 320, 480, 480 samples at 8000, 16000, 24000, 32000, 44100, 48000 Hz;
- *   one of 7500 us has 60, 120, 180, 240, 360, 360.
+ *   Flags are 0 for no and anything else for yes. Rates are in Hz: 8000, 16000, 24000, 32000, 44100 or 48000.
+ *   Durations are in microseconds: 10000 or 7500.
  *
  * Who owns what
  *
  *   The caller owns every byte. The library allocates nothing, keeps no pointer after a call returns, and has
  *   no variables of its own: all that is remembered is in the struct. So a struct may be copied, moved or thrown
  *   away between two calls, needs no end call, and calls on different structs may run at the same time.
- *   Two calls on one struct must not run at the same time.
  *
- *   Any two arrays lent to one call must not overlap, unless both are only read. A count says how many entries an
- *   array has; pointers are never NULL. Floats and numbers are aligned to 4 bytes, 16-bit samples to 2.
+ * What the caller owes
+ *
+ *   No value in an array, a struct or a number can do harm. These can, and no call can see them:
+ *   - a pointer is never NULL, and what it points to is there: a count says how many entries an array has;
+ *   - floats and structs are aligned to 4 bytes, 16-bit samples to 2;
+ *   - what a call writes (its struct, a decoder's samples, an encoder's record) overlaps nothing else that it is lent;
+ *   - two calls on one struct do not run at the same time.
+ *   And floating point is as a program starts with it: rounding to nearest, subnormal numbers kept, no exception
+ *   trapped (on x86-64 an MXCSR of 0x1f80). Audio hosts often have subnormals flushed (FTZ, DAZ): set that back for
+ *   the call, or it gives other bits than are proved.
  *
  * What a refused call leaves
  *
@@ -29,16 +36,29 @@
  *   A struct that was never started is no danger: one of zero bytes is answered with NABITEKE_UNFIT, and one of
  *   any other bytes is answered with NABITEKE_UNFIT or works like a started one with that past.
  *
+ * Time
+ *
+ *   The slowest frames are those of subnormal numbers, and an encoder that falls into digital silence stays in them. On
+ *   x86-64 they take 10 to 90 times the typical frame, still less than 2% of a frame's duration (docs/BENCHMARK.md).
+ *
  * Stack
  *
- *   A decoder frame needs at most 10960 bytes of stack, an encoder frame 11712, every other call 600, arguments
- *   included. Measured at every rate, duration and transition: the lowest byte that a call changed of a painted stack.
+ *   No call takes more than NABITEKE_STACK bytes of stack, arguments included: measured at every rate and duration and in
+ *   all five transitions (examples/tests/stack.c).
  */
 #ifndef NABITEKE_H
 #define NABITEKE_H
 
 #include <stddef.h>
 #include <stdint.h>
+
+#define NABITEKE_VERSION_MAJOR 1
+#define NABITEKE_VERSION_MINOR 0
+#define NABITEKE_VERSION_PATCH 0
+/* One number, which rises from version to version: 10000 is 1.0.0. */
+#define NABITEKE_VERSION (NABITEKE_VERSION_MAJOR * 10000 + NABITEKE_VERSION_MINOR * 100 + NABITEKE_VERSION_PATCH)
+
+#define NABITEKE_STACK 12288
 
 #ifdef __cplusplus
 extern "C" {
@@ -47,9 +67,9 @@ extern "C" {
 /* What a call answers. Checked in this order: a start 1, 2; a frame 9, 3, 4, 5, 6, and a decoder's then 7, 8. */
 enum nabiteke_answer {
     NABITEKE_DONE = 0,         /* done */
-    NABITEKE_RATE = 1,         /* the rate is not one of the six above */
+    NABITEKE_RATE = 1,         /* the rate is not one of the six */
     NABITEKE_DURATION = 2,     /* the duration is not 10000 or 7500 */
-    NABITEKE_ROWS = 3,         /* a coefficient array has another length than is asked for below */
+    NABITEKE_ROWS = 3,         /* a coefficient array has another length than is asked for */
     NABITEKE_COEFFICIENT = 4,  /* a coefficient is infinite or NaN */
     NABITEKE_SAMPLE_COUNT = 5, /* the sample count is not the frame's */
     NABITEKE_NBITS = 6,        /* nbits is above 3200 */
@@ -75,15 +95,48 @@ typedef struct nabiteke_encoder {
     float x_6p4[114];
 } nabiteke_encoder;
 
-/* What an encoder's frame gives. Index and active are 0 where no pitch is present. */
-typedef struct nabiteke_record {
-    uint32_t present; /* 1 where a pitch is present, else 0 */
+/* A frame's pitch, which an encoder finds and a decoder takes. Where it is not present, the other two are not read. */
+typedef struct nabiteke_pitch {
+    uint32_t present; /* whether the frame has a pitch */
     uint32_t index;   /* the pitch index, 0 to 511 */
-    uint32_t active;  /* 1 where the decoder is to filter, else 0 */
-    uint32_t bits;    /* the bits that the record takes: 1 absent, 11 present, 0 refused */
+    uint32_t active;  /* whether the decoder is to filter */
+} nabiteke_pitch;
+
+/* What an encoder's frame gives. Flags are 0 or 1; index and active are 0 where no pitch is present. */
+typedef struct nabiteke_record {
+    nabiteke_pitch pitch;
+    uint32_t bits; /* the bits that the pitch takes: 1 absent, 11 present, 0 refused */
 } nabiteke_record;
 
-/* What the archive has. Call the functions without the underscore, below, instead. */
+/*
+ * The coefficients that a decoder's frame call is lent: four rows of numerators, by gain row 0 to 3, one after
+ * another, and four rows of denominators, by quarter 0 to 3. 44100 takes the rows of 48000. nabiteke_numerator_count
+ * and nabiteke_denominator_count say how many entries a rate has.
+ */
+typedef struct nabiteke_rows {
+    const float *numerators;
+    size_t numerator_count;
+    const float *denominators;
+    size_t denominator_count;
+} nabiteke_rows;
+
+/* The coefficients that an encoder's frame call is lent, at every rate: 239, 31 and 15 entries. */
+typedef struct nabiteke_sets {
+    const float *resampling;
+    size_t resampling_count;
+    const float *correlation; /* interpolates correlations */
+    size_t correlation_count;
+    const float *signal; /* interpolates the signal */
+    size_t signal_count;
+} nabiteke_sets;
+
+/* How many samples a frame has; 0 where the rate or the duration is unknown. */
+size_t nabiteke_frame_length(uint32_t rate, uint32_t duration);
+/* How many entries the four rows of a rate have together; 0 where the rate is unknown. */
+size_t nabiteke_numerator_count(uint32_t rate);
+size_t nabiteke_denominator_count(uint32_t rate);
+
+/* What else the archive has. Call the functions without the underscore, below, instead. */
 uint32_t nabiteke_decoder_start_(uint32_t *numbers, float *kept, float *inputs, float *outputs, uint32_t rate,
                                  uint32_t duration);
 uint32_t nabiteke_decoder_frame_(uint32_t *numbers, float *kept, float *inputs, float *outputs,
@@ -108,24 +161,17 @@ static inline uint32_t nabiteke_decoder_start(nabiteke_decoder *decoder, uint32_
 }
 
 /*
- * Filters one frame of samples in place. Answers 0 or 3 to 9.
- * numerators, denominators  the rate's rows of the standard, four of each, one after another:
- *                           12 and 20 entries at 8000 and 16000, 20 and 28 at 24000, 28 and 36 at 32000,
- *                           44 and 52 at 44100 and 48000
- * pitch_present             whether the frame's side information has a pitch; if not, the next two are not read
- * pitch_index               0 to 511
- * pitch_active              whether the frame is to be filtered
- * nbits                     the size of the frame in bits, at most 3200
+ * Filters one frame of samples in place. Answers 0 or 3 to 9. nbits is the size of the frame in bits, at most 3200.
+ * A frame without an active pitch goes through unchanged, but for a fade after a filtered one.
  */
-static inline uint32_t nabiteke_decoder_frame(nabiteke_decoder *decoder, const float *numerators,
-                                              size_t numerator_count, const float *denominators,
-                                              size_t denominator_count, uint32_t pitch_present,
-                                              uint32_t pitch_index, uint32_t pitch_active, uint32_t nbits,
-                                              float *samples, size_t sample_count)
+static inline uint32_t nabiteke_decoder_frame(nabiteke_decoder *decoder, const nabiteke_rows *rows,
+                                              nabiteke_pitch pitch, uint32_t nbits, float *samples,
+                                              size_t sample_count)
 {
-    return nabiteke_decoder_frame_(decoder->numbers, decoder->kept, decoder->inputs, decoder->outputs, numerators,
-                                   numerator_count, denominators, denominator_count, pitch_present, pitch_index,
-                                   pitch_active, nbits, samples, sample_count);
+    return nabiteke_decoder_frame_(decoder->numbers, decoder->kept, decoder->inputs, decoder->outputs,
+                                   rows->numerators, rows->numerator_count, rows->denominators,
+                                   rows->denominator_count, pitch.present, pitch.index, pitch.active, nbits, samples,
+                                   sample_count);
 }
 
 /* Marks that frames were lost before the next one: the decoder is no longer settled. Answers 0 or 9. */
@@ -135,8 +181,14 @@ static inline uint32_t nabiteke_decoder_lost(nabiteke_decoder *decoder)
 }
 
 /*
- * 1 once 3 inactive frames in a row (4 at 7500 us) were done since the last start or loss mark, else 0. From then on
- * the decoder gives the same samples as any other of its rate and duration that has been given the same frames since.
+ * Whether the decoder has settled: 1 exactly where it has accepted 3 inactive frames in a row (4 at 7500 us) since its
+ * last start or loss mark, else 0. A frame is accepted where its call answers 0, and inactive where it has no active
+ * pitch; refused frames do not count, and active frames after that row leave the report at 1.
+ *
+ * What it is for: take two decoders with any pasts and the same rate, duration and coefficients. Once both have
+ * accepted the same 3 inactive frames in a row (4 at 7500 us), with no start or loss mark since the first of them, they
+ * give the same answers and sample bits for every later frame, as long as the later frames given to both are equal
+ * one by one, and until either has a start or a loss mark.
  */
 static inline uint32_t nabiteke_decoder_settled(const nabiteke_decoder *decoder)
 {
@@ -152,33 +204,31 @@ static inline uint32_t nabiteke_encoder_start(nabiteke_encoder *encoder, uint32_
 
 /*
  * Finds the pitch of one frame of samples and writes it to *record. Answers 0, 3, 4, 5, 6 or 9.
- * resampling, correlation, signal  the standard's resampling and interpolation rows: 239, 31 and 15 entries
- * nbits                            the size of the frame in bits, at most 3200
- * near_nyquist                     whether the frame's energy lies near half its rate; it is then not active
+ * nbits         the size of the frame in bits, at most 3200
+ * near_nyquist  whether the frame's energy lies near half its rate; its pitch is then not active
  */
-static inline uint32_t nabiteke_encoder_frame(nabiteke_encoder *encoder, const float *resampling,
-                                              size_t resampling_count, const float *correlation,
-                                              size_t correlation_count, const float *signal, size_t signal_count,
-                                              const int16_t *samples, size_t sample_count, uint32_t nbits,
-                                              uint32_t near_nyquist, nabiteke_record *record)
+static inline uint32_t nabiteke_encoder_frame(nabiteke_encoder *encoder, const nabiteke_sets *sets, uint32_t nbits,
+                                              const int16_t *samples, size_t sample_count, uint32_t near_nyquist,
+                                              nabiteke_record *record)
 {
     uint32_t numbers[4];
     uint32_t answer = nabiteke_encoder_frame_(
-        encoder->numbers, encoder->memories, encoder->x_s, encoder->x_12p8, encoder->x_6p4, resampling,
-        resampling_count, correlation, correlation_count, signal, signal_count, samples, sample_count, nbits,
-        near_nyquist, numbers);
-    record->present = numbers[0];
-    record->index = numbers[1];
-    record->active = numbers[2];
+        encoder->numbers, encoder->memories, encoder->x_s, encoder->x_12p8, encoder->x_6p4, sets->resampling,
+        sets->resampling_count, sets->correlation, sets->correlation_count, sets->signal, sets->signal_count, samples,
+        sample_count, nbits, near_nyquist, numbers);
+    record->pitch.present = numbers[0];
+    record->pitch.index = numbers[1];
+    record->pitch.active = numbers[2];
     record->bits = numbers[3];
     return answer;
 }
 
 #ifdef __cplusplus
 }
-static_assert(sizeof(nabiteke_decoder) == 8768 && sizeof(nabiteke_encoder) == 1836, "structs without gaps");
-#else
-_Static_assert(sizeof(nabiteke_decoder) == 8768 && sizeof(nabiteke_encoder) == 1836, "structs without gaps");
 #endif
+
+/* The structs have no gaps: the archive is compiled for these sizes. */
+typedef char nabiteke_decoder_has_no_gaps[sizeof(nabiteke_decoder) == 8768 ? 1 : -1];
+typedef char nabiteke_encoder_has_no_gaps[sizeof(nabiteke_encoder) == 1836 ? 1 : -1];
 
 #endif

@@ -41,12 +41,40 @@ fn lc3_config(rate: u32, duration: u32) -> Lc3Config {
     }
 }
 
-// A decoder on zeroed buffers, which stay until the program ends.
+// A piece of what an end remembers: a copy of all its pieces can be put back later.
+#[repr(C)]
+pub struct Piece {
+    start: *mut u8,
+    bytes: usize,
+}
+
+fn piece<T>(values: &mut [T]) -> Piece {
+    Piece {
+        start: values.as_mut_ptr().cast(),
+        bytes: std::mem::size_of_val(values),
+    }
+}
+
+// Hands an end out for good, with its own bytes as its first piece.
+unsafe fn hand_out<T>(end: T, pieces: *mut Piece) -> *mut T {
+    let end = Box::into_raw(Box::new(end));
+    pieces.write(piece(std::slice::from_mut(&mut *end)));
+    end
+}
+
+/// A decoder on zeroed buffers, which stay until the program ends.
+/// # Safety
+/// `pieces` has space for two.
 #[no_mangle]
-pub extern "C" fn rust_decoder_start(rate: u32, duration: u32) -> *mut Decoder<'static> {
+pub unsafe extern "C" fn rust_decoder_start(
+    rate: u32,
+    duration: u32,
+    pieces: *mut Piece,
+) -> *mut Decoder<'static> {
     let config = lc3_config(rate, duration);
     let buffer = vec![0.0; Decoder::calc_working_buffer_length(&config)].leak();
-    Box::into_raw(Box::new(Decoder::new(config, buffer).0))
+    pieces.add(1).write(piece(buffer));
+    hand_out(Decoder::new(config, buffer).0, pieces)
 }
 
 /// # Safety
@@ -65,18 +93,26 @@ pub unsafe extern "C" fn rust_decoder_frame(
     (*decoder).run(&info, nbits as usize, from_raw_parts_mut(samples, count))
 }
 
-// An encoder on zeroed buffers, which stay until the program ends.
+/// An encoder on zeroed buffers, which stay until the program ends.
+/// # Safety
+/// `pieces` has space for three.
 #[no_mangle]
-pub extern "C" fn rust_encoder_start(rate: u32, duration: u32) -> *mut Encoder<'static> {
+pub unsafe extern "C" fn rust_encoder_start(
+    rate: u32,
+    duration: u32,
+    pieces: *mut Piece,
+) -> *mut Encoder<'static> {
     let config = lc3_config(rate, duration);
     let (integers, floats) = Encoder::calc_working_buffer_length(&config);
-    let (encoder, _, _) = Encoder::new(config, vec![0.0; floats].leak(), vec![0; integers].leak());
-    Box::into_raw(Box::new(encoder))
+    let (integers, floats) = (vec![0; integers].leak(), vec![0.0; floats].leak());
+    pieces.add(1).write(piece(integers));
+    pieces.add(2).write(piece(floats));
+    hand_out(Encoder::new(config, floats, integers).0, pieces)
 }
 
 /// # Safety
 /// `encoder` comes from `rust_encoder_start`, `samples` are `count` samples of one frame, and
-/// `record` has room for four numbers: present, index, active, bits.
+/// `record` has space for four numbers: present, index, active, bits.
 #[no_mangle]
 pub unsafe extern "C" fn rust_encoder_frame(
     encoder: *mut Encoder<'static>,

@@ -19,7 +19,7 @@ use Rattle.lag.specs.declared.rescale.Lag.{Lag}
 use Rattle.lag.specs.declared.rescale.FoundLag.{FoundLag}
 use Rattle.filter.specs.Required.{Lent}
 use Rattle.control.specs.Pitch.{lagFor}
-use Rattle.control.specs.Judge.{unless, setCounts, setFinite, planOf, lagJudged, judgedSide, rangeJudged, judgedWith, judged}
+use Rattle.control.specs.Judge.{unless, setCounts, setFinite, planOf, lagJudged, judgedSide, rangeJudged, judged}
 use Rattle.control.specs.declared.registers.Registers.{Registers}
 use Rattle.control.specs.declared.judge.SideInfo.{SideInfo}
 use Rattle.control.specs.declared.judge.Plan.{Plan}

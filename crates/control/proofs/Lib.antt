@@ -4,3 +4,6 @@ pub mod Sizes
 pub mod Fit
 pub mod Judging
 pub mod StaysFit
+pub mod Reaching
+pub mod LeastLimit
+pub mod Marks

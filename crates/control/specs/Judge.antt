@@ -1,5 +1,5 @@
 -- The verdict on a frame: the first refusal in the scope's order, or what the frame is to do.
-use Prim.Native.Nat.{ℕ, _*_}
+use Prim.Native.Nat.{_*_}
 use mathlib.Core.Bool.{Bool, true, false, _&&_}
 use mathlib.Core.List.{List}
 use lib.Dec.{leb, eqb}

@@ -1,6 +1,5 @@
 -- The registers after a frame and after a loss mark.
-use Prim.Native.Nat.{ℕ}
-use mathlib.Core.Bool.{Bool, false}
+use mathlib.Core.Bool.{false}
 use Rattle.rates.specs.declared.table.Rate.{Rate}
 use Rattle.filter.specs.declared.coefficients.Taps.{Taps}
 use Rattle.control.specs.State.{runAfter, settledAfter}

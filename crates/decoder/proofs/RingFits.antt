@@ -56,12 +56,12 @@ newest-fits c start k h = go (eqb start 0) refl
     go false p = omega (arith, sized c k, multiple-least (c .nf) (start / c .nf) start whole (omega (arith, eqb-false start 0 p)))
 
 -- the first block
-first-block : (c : Lc3Config) → 0 < c .history → blockFits c 0 ≡ true
+pub first-block : (c : Lc3Config) → 0 < c .history → blockFits c 0 ≡ true
 unfolding blockFits
 first-block c h = rw (lt-ltb 0 (c .history) h, zero-mod (c .nf))
 
 -- the block after a block that fits
-next-block : (c : Lc3Config) (start : ℕ) → 0 < c .history → start + c .nf ≤ c .history → start % c .nf ≡ 0 →
+pub next-block : (c : Lc3Config) (start : ℕ) → 0 < c .history → start + c .nf ≤ c .history → start % c .nf ≡ 0 →
     blockFits c (nextBlock (c .history) (c .nf) start) ≡ true
 unfolding blockFits
 next-block c start some h m = go (eqb (start + c .nf) (c .history)) refl

@@ -2,7 +2,7 @@
 -- the same calls of the decoder give, and C sees what those calls reply.
 -- `zero-frame`, `zero-lost`: numbers of zero bytes are answered with 9, and nothing changes.
 use Prim.Native.Nat.{ℕ}
-use mathlib.Core.Path.{_≡_, refl, ap, _∙_}
+use mathlib.Core.Path.{_≡_, refl}
 use mathlib.Core.Bool.{Bool, true, false}
 use mathlib.Core.List.{List, [], _∷_, map}
 use native.Mathlib.Omega.{arith}
@@ -16,14 +16,17 @@ use Rattle.rates.specs.Table.{find}
 use Rattle.rates.specs.Configs.{configOf}
 use Rattle.rates.specs.declared.config.Configured.{Configured}
 use Rattle.rates.specs.declared.config.Configured.the-variants.{Config, Refused}
-use Rattle.decoder.specs.State.{cleared, startedWith, started, fitConfig}
+use Rattle.control.specs.State.{clearedRegisters}
+use Rattle.control.specs.Judge.{judged}
+use Rattle.decoder.specs.State.{cleared, startedWith, started, fitDecoder}
 use Rattle.decoder.specs.Frame.{framed, lostWith, lostFrom}
-use Rattle.decoder.specs.Calls.{Given, Call, start, frame, loss, framedBy, after, afterAll, replyOf, reply, replies}
 use Rattle.decoder.specs.declared.state.Decoder.{Decoder}
 use Rattle.decoder.specs.declared.frame.Framed.{Framed}
+use Rattle.settling.specs.Calls.{Given, Call, start, frame, loss, framedBy, after, afterAll, replyOf, reply, replies}
 use Rattle.nabiteke.specs.Words.{isYes, asFlag}
-use Rattle.nabiteke.specs.DecoderArrays.{DecoderArrays, arrays, readDecoder, writtenDecoder}
-use Rattle.nabiteke.specs.DecoderCalls.{frameCall, lostCall, settledCall, handed, handedNumbers, arraysAfter, seen, shown, arraysAfterAll, seenAll}
+use Rattle.nabiteke.specs.DecoderArrays.{DecoderArrays, arrays, registersFrom, readDecoder, numbersOf, writtenDecoder}
+use Rattle.nabiteke.specs.DecoderCalls.{startCall, frameCall, lostCall, settledCall, handed, handedNumbers, arraysAfter, seen, shown, arraysAfterAll, seenAll}
+use Rattle.nabiteke.proofs.Folds.{all-kept}
 use Rattle.nabiteke.proofs.DecoderFrames.{Outcome, refusal, success, outcome, unfit-some}
 
 -- a flag reads back
@@ -32,18 +35,21 @@ flag-back true = refl
 flag-back false = refl
 
 -- a state that was written reads back
-pub read-written : (d : Decoder) → length (d .«c_num») ≡ 11 → length (d .«c_den») ≡ 13 → readDecoder (writtenDecoder d) ≡ d
+pub read-written : (d : Decoder) → length (d .registers .«c_num») ≡ 11 → length (d .registers .«c_den») ≡ 13 → readDecoder (writtenDecoder d) ≡ d
+unfolding registersFrom numbersOf
 read-written d n m =
+    let num = d .registers .«c_num» in
+    let den = d .registers .«c_den» in
     rw (
-      flag-back (d .«ltpf_active_prev»),
-      flag-back (d .settled),
-      take-at (d .«c_num») (d .«c_den») 11 n,
-      drop-at (d .«c_num») (d .«c_den») 11 n,
-      take-all 13 (d .«c_den») (omega arith),
+      flag-back (d .registers .«ltpf_active_prev»),
+      flag-back (d .registers .settled),
+      take-at num den 11 n,
+      drop-at num den 11 n,
+      take-all 13 den (omega arith),
     )
 
 started-kept : (rate duration : ℕ) → readDecoder (writtenDecoder (started rate duration .decoder)) ≡ started rate duration .decoder
-unfolding cleared
+unfolding cleared clearedRegisters
 started-kept rate duration = go (configOf rate duration)
   where
     clear-kept : (r d : ℕ) → readDecoder (writtenDecoder (cleared r d)) ≡ cleared r d
@@ -55,32 +61,32 @@ started-kept rate duration = go (configOf rate duration)
 
 -- the state in the arrays after a call
 pub call-kept : (a : DecoderArrays) (c : Call) → readDecoder (arraysAfter a c) ≡ after (readDecoder a) c
-unfolding lostFrom
+unfolding lostFrom startCall frameCall lostCall registersFrom numbersOf
 call-kept a (start rate duration) = started-kept rate duration
 call-kept a (frame f) = go (framedBy (readDecoder a) f) (outcome (readDecoder a) f)
   where
     go : (r : Framed × List Float) → Outcome (readDecoder a) (f .samples) r → readDecoder (handed a r .1) ≡ r .0 .decoder
     go r (refusal b h) = rw (ne-eqb (numberOf b) 0 h)
     go r (success next out w) = read-written next (w .nums) (w .dens)
-call-kept a loss = go (fitConfig (readDecoder a)) refl
+call-kept a loss = go (fitDecoder (readDecoder a)) refl
   where
-    go : (k : Configured) → fitConfig (readDecoder a) ≡ k → readDecoder (handedNumbers a (lostWith (readDecoder a) k) .1) ≡ lostWith (readDecoder a) k .decoder
+    go : (k : Configured) → fitDecoder (readDecoder a) ≡ k → readDecoder (handedNumbers a (lostWith (readDecoder a) k) .1) ≡ lostWith (readDecoder a) k .decoder
     go (Refused b) e = rw (ne-eqb (numberOf b) 0 (unfit-some (readDecoder a) b e))
-    go (Config c) e = rw (flag-back (readDecoder a .«ltpf_active_prev»))
+    go (Config c) e = rw (flag-back (readDecoder a .registers .«ltpf_active_prev»))
 
 -- and what C sees of it
 pub call-seen : (a : DecoderArrays) (c : Call) → seen a c ≡ shown (reply (readDecoder a) c)
-unfolding lostFrom
-call-seen a (start rate duration) = rw (flag-back (started rate duration .decoder .settled))
+unfolding lostFrom startCall frameCall lostCall settledCall registersFrom numbersOf
+call-seen a (start rate duration) = rw (flag-back (started rate duration .decoder .registers .settled))
 call-seen a (frame f) = go (framedBy (readDecoder a) f) (outcome (readDecoder a) f)
   where
     go : (r : Framed × List Float) → Outcome (readDecoder a) (f .samples) r →
         record { answer = handed a r .0; settled = settledCall (handed a r .1); samples = handed a r .2 } ≡ shown (replyOf r)
     go r (refusal b h) = rw (ne-eqb (numberOf b) 0 h)
-    go r (success next out w) = rw (flag-back (next .settled))
-call-seen a loss = go (fitConfig (readDecoder a)) refl
+    go r (success next out w) = rw (flag-back (next .registers .settled))
+call-seen a loss = go (fitDecoder (readDecoder a)) refl
   where
-    go : (k : Configured) → fitConfig (readDecoder a) ≡ k →
+    go : (k : Configured) → fitDecoder (readDecoder a) ≡ k →
         record {
           answer = handedNumbers a (lostWith (readDecoder a) k) .0;
           settled = settledCall (handedNumbers a (lostWith (readDecoder a) k) .1);
@@ -91,8 +97,7 @@ call-seen a loss = go (fitConfig (readDecoder a)) refl
 
 -- calls one after the other
 pub calls-kept : (a : DecoderArrays) (calls : List Call) → readDecoder (arraysAfterAll a calls) ≡ afterAll (readDecoder a) calls
-calls-kept a [] = refl
-calls-kept a (c ∷ earlier) = call-kept (arraysAfterAll a earlier) c ∙ ap (λ (d : Decoder). after d c) (calls-kept a earlier)
+calls-kept = all-kept readDecoder arraysAfter after call-kept
 
 pub calls-seen : (a : DecoderArrays) (calls : List Call) → seenAll a calls ≡ map shown (replies (readDecoder a) calls)
 calls-seen a [] = refl
@@ -104,9 +109,9 @@ module _ (kept inputs outputs : List Float) where
   zeros = arrays (replicate 8 0) kept inputs outputs
 
   pub zero-frame : (f : Given) → frameCall zeros f ≡ (9, zeros, f .samples)
-  unfolding framed find
+  unfolding framed judged find frameCall registersFrom
   zero-frame f = refl
 
   pub zero-lost : lostCall zeros ≡ (9, zeros)
-  unfolding lostFrom find
+  unfolding lostFrom find lostCall registersFrom
   zero-lost = refl

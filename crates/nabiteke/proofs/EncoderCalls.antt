@@ -1,18 +1,21 @@
 -- What the encoder's functions put together is what the definitions of the calls say.
 use Prim.Native.Nat.{ℕ, _<_, _^_}
-use mathlib.Core.Path.{_≡_, sym, ap, _∙_}
+use mathlib.Core.Path.{_≡_}
+use mathlib.Core.Bool.{Bool}
 use mathlib.Core.List.{List}
 use native.Mathlib.Omega.{arith}
-use borrow.Author.Tests.{ne-eqb}
 use Rattle.rates.specs.Answers.{numberOf}
 use Rattle.rates.specs.Configs.{configOf}
 use Rattle.rates.specs.declared.config.Configured.{Configured}
 use Rattle.rates.specs.declared.config.Configured.the-variants.{Config, Refused}
 use Rattle.encoder.specs.State.{startedWith, started}
+use Rattle.encoder.specs.Frame.{framed}
+use Rattle.encoder.specs.declared.state.Encoder.{Encoder}
 use Rattle.encoder.specs.declared.state.Started.{Started}
 use Rattle.encoder.specs.declared.frame.Framed.{Framed}
+use Rattle.nabiteke.specs.Words.{whereDone}
 use Rattle.nabiteke.specs.EncoderArrays.{EncoderArrays, readEncoder, writtenEncoder, recordOf}
-use Rattle.nabiteke.specs.EncoderCalls.{Given, framedBy, handed, frameCall}
+use Rattle.nabiteke.specs.EncoderCalls.{Given, framedBy, frameCall}
 use Rattle.nabiteke.proofs.EncoderFrames.{Outcome, refusal, success, outcome}
 
 -- a start gives a state that can be written
@@ -23,24 +26,21 @@ started-fits rate duration s e = rw e (go (configOf rate duration))
     go (Config c) = omega arith
     go (Refused a) = omega arith
 
-module _ (a : EncoderArrays) (f : Given) (word : ℕ) (r : Framed) (rec : List ℕ) (e : r ≡ framedBy (readEncoder a) f)
-    (w : word ≡ numberOf (r .answer)) (m : rec ≡ recordOf (r .pitch) (r .«nbits_ltpf»)) where
-  -- a refused frame leaves the arrays
-  pub frame-refused : (word ≡ 0 → ⊥) → (word, a, rec) ≡ frameCall a f
-  frame-refused some = rw (← e, w, m) (go r (rw (← e) at (outcome (readEncoder a) f)) w)
-    where
-      go : (q : Framed) → Outcome (readEncoder a) q → word ≡ numberOf (q .answer) → (numberOf (q .answer), a, recordOf (q .pitch) (q .«nbits_ltpf»)) ≡ handed a q
-      go q (refusal b h) v = rw (ne-eqb (numberOf b) 0 h)
-      go q (success _ d l) v = absurd (some (v ∙ ap numberOf d))
+module _ (a : EncoderArrays) (f : Given) (e : Encoder) (near : Bool) (r : Framed) (from : e ≡ readEncoder a) (same-near : near ≡ f .near)
+    (made : r ≡ framed e (f .resampling) (f .correlation) (f .signal) (f .samples) (f .nbits) near) where
+  made-by : r ≡ framedBy (readEncoder a) f
+  made-by = rw (from, same-near) at made
 
   -- the state of a frame that is done can be written
-  pub frame-fits : word ≡ 0 → r .encoder .«t_prev» < 2 ^ 32
-  frame-fits none = go r (rw (← e) at (outcome (readEncoder a) f)) w
+  pub frame-fits : numberOf (r .answer) ≡ 0 → r .encoder .«t_prev» < 2 ^ 32
+  frame-fits none = go r (rw (← made-by) at (outcome (readEncoder a) f)) none
     where
-      go : (q : Framed) → Outcome (readEncoder a) q → word ≡ numberOf (q .answer) → q .encoder .«t_prev» < 2 ^ 32
-      go q (refusal b h) v = absurd (h (sym v ∙ none))
+      go : (q : Framed) → Outcome (readEncoder a) q → numberOf (q .answer) ≡ 0 → q .encoder .«t_prev» < 2 ^ 32
+      go q (refusal b h) v = absurd (h v)
       go q (success _ d l) v = omega arith
 
-  -- and written
-  pub frame-done : word ≡ 0 → (b : EncoderArrays) → b ≡ writtenEncoder (r .encoder) → (0, b, rec) ≡ frameCall a f
-  frame-done none b n = let zero-word : numberOf (r .answer) ≡ 0 = sym w ∙ none in rw (← e, n, m, zero-word)
+  -- and is written; a refused frame leaves the arrays
+  pub frame-left : (word : ℕ) (b : EncoderArrays) (rec : List ℕ) → word ≡ numberOf (r .answer) →
+      b ≡ whereDone (r .answer) (writtenEncoder (r .encoder)) a → rec ≡ recordOf (r .pitch) (r .«nbits_ltpf») → (word, b, rec) ≡ frameCall a f
+  unfolding frameCall
+  frame-left word b rec w n m = rw (w, n, m, made-by)

@@ -2,7 +2,7 @@
 -- the encoder give. `recorded`: which answers and records a frame call gives. `zero-frame`: numbers of zero bytes are answered with 9, and nothing
 -- changes.
 use Prim.Native.Nat.{ℕ}
-use mathlib.Core.Path.{_≡_, refl, ap, _∙_}
+use mathlib.Core.Path.{_≡_, refl}
 use mathlib.Core.Bool.{Bool, true, false, cond}
 use mathlib.Core.List.{List, [], _∷_}
 use borrow.Author.Tests.{ne-eqb}
@@ -25,16 +25,19 @@ use Rattle.encoder.specs.declared.frame.Framed.{Framed}
 use Rattle.encoder.specs.declared.state.Encoder.{Encoder}
 use Rattle.encoder.proofs.Frames.{Takes, decoder-takes}
 use Rattle.nabiteke.specs.EncoderArrays.{EncoderArrays, arrays, readEncoder, writtenEncoder, recordOf}
-use Rattle.nabiteke.specs.EncoderCalls.{Given, framedBy, frameCall, handed, Call, start, frame, after, arraysAfter, afterAll, arraysAfterAll, Recorded, refused, absent, present}
+use Rattle.nabiteke.specs.EncoderCalls.{Given, framedBy, startCall, frameCall, handed, Call, start, frame, after, arraysAfter, afterAll, arraysAfterAll, Recorded, refused, absent, present}
+use Rattle.nabiteke.proofs.Folds.{all-kept}
 use Rattle.nabiteke.proofs.DecoderLaws.{flag-back}
 use Rattle.nabiteke.proofs.EncoderFrames.{Outcome, refusal, success, refused-some, outcome}
 
 -- a state that was written reads back
 pub read-written : (e : Encoder) → readEncoder (writtenEncoder e) ≡ e
+unfolding readEncoder writtenEncoder
 read-written e = rw (flag-back (e .memory .«mem_ltpf_active»))
 
 -- the state in the arrays after a call
 pub call-kept : (a : EncoderArrays) (c : Call) → readEncoder (arraysAfter a c) ≡ after (readEncoder a) c
+unfolding startCall frameCall
 call-kept a (start rate duration) = read-written (started rate duration .encoder)
 call-kept a (frame f) = go (framedBy (readEncoder a) f) (outcome (readEncoder a) f)
   where
@@ -44,8 +47,7 @@ call-kept a (frame f) = go (framedBy (readEncoder a) f) (outcome (readEncoder a)
 
 -- calls one after the other
 pub calls-kept : (a : EncoderArrays) (calls : List Call) → readEncoder (arraysAfterAll a calls) ≡ afterAll (readEncoder a) calls
-calls-kept a [] = refl
-calls-kept a (c ∷ earlier) = call-kept (arraysAfterAll a earlier) c ∙ ap (λ (e : Encoder). after e c) (calls-kept a earlier)
+calls-kept = all-kept readEncoder arraysAfter after call-kept
 
 -- what is found in a frame, as a record
 found-recorded : (c : Lc3Config) (x : List Float) (d : Detected) (m : Memory) (k s : List Float) (nbits : ℕ) (near : Bool) →
@@ -60,7 +62,7 @@ found-recorded c x d m k s nbits near = go (ready d k s) _ _
 
 -- which answers and records a frame call gives
 pub recorded : (a : EncoderArrays) (f : Given) → Recorded (frameCall a f .0) (frameCall a f .2)
-unfolding judged encoded
+unfolding judged encoded frameCall
 recorded a f = go (judged (readEncoder a) (f .resampling) (f .correlation) (f .signal) (f .samples) (f .nbits)) refl
   where
     go : (k : Configured) → judged (readEncoder a) (f .resampling) (f .correlation) (f .signal) (f .samples) (f .nbits) ≡ k → Recorded (frameCall a f .0) (frameCall a f .2)
@@ -70,5 +72,5 @@ recorded a f = go (judged (readEncoder a) (f .resampling) (f .correlation) (f .s
 -- numbers of zero bytes
 pub zero-frame : (memories s m l : List Float) (f : Given) →
     frameCall (arrays (replicate 4 0) memories s m l) f ≡ (9, arrays (replicate 4 0) memories s m l, 0 ∷ 0 ∷ 0 ∷ 0 ∷ [])
-unfolding judged find
+unfolding judged find frameCall readEncoder
 zero-frame memories s m l f = refl

@@ -1,36 +1,20 @@
 -- Blocks put over a whole list.
 use Prim.Native.Nat.{ℕ, _+_}
-use mathlib.Core.Path.{_≡_}
-use mathlib.Core.List.{List, [], _++_, append-nil}
-use native.Mathlib.Nat.{zero-add}
+use mathlib.Core.Path.{_≡_, _∙_}
+use mathlib.Core.List.{List, _++_}
 use native.Mathlib.Omega.{arith}
 use lib.Ieee.{Float}
-use lib.ListN.{length, drop, drop-of-length-le}
-use lib.Seq.{take-append-seam, drop-append-add, drop-drop}
-use Rattle.decoder.specs.Ring.{stored}
-
--- nothing is left past the end
-none-left : (l : List Float) (n : ℕ) → length l ≡ n → drop n l ≡ []
-none-left l n e = drop-of-length-le l {i = n} (omega arith)
+use lib.ListN.{length}
+use Rattle.slices.specs.Slices.{placed}
+use Rattle.slices.proofs.Stored.{placed-stored, length-placed, take-placed, stored-last}
 
 -- one block over all of it
-pub put-whole : (into block : List Float) → length into ≡ length block → stored into 0 block ≡ block
-unfolding stored
-put-whole into block e = rw (none-left into (0 + length block) (omega arith)) (append-nil block)
+pub put-whole : (into block : List Float) → length into ≡ length block → placed into 0 block ≡ block
+put-whole into block e = placed-stored into block 0 (omega arith) ∙ stored-last into block 0 (omega arith)
 
--- two blocks, one behind the other, over all of it
+-- two blocks, one after the other, over all of it
 pub put-two : (into once twice a b : List Float) (n : ℕ) → length a ≡ n → length into ≡ n + length b →
-    once ≡ stored into 0 a → twice ≡ stored once n b → twice ≡ a ++ b
-unfolding stored
+    once ≡ placed into 0 a → twice ≡ placed once n b → twice ≡ a ++ b
 put-two into once twice a b n l e p q =
-    rw (
-      q,
-      p,
-      ← l,
-      zero-add (length a),
-      take-append-seam a (drop (length a) into),
-      drop-append-add a (drop (length a) into) (length b),
-      drop-drop (length b) (length a) into,
-      none-left into (length a + length b) (omega arith),
-    )
-    (append-nil (a ++ b))
+    let long = length-placed into a 0 in
+    q ∙ rw (p, placed-stored (placed into 0 a) b n (omega arith), stored-last (placed into 0 a) b n (omega arith), ← l, take-placed into a (omega arith))

@@ -1,48 +1,48 @@
 -- The decoder's calls from C: what each answers and leaves in the arrays, by the decoder's own definitions.
 use Prim.Native.Nat.{ℕ}
-use mathlib.Core.List.{List, [], _∷_}
+use mathlib.Core.List.{List, [], _∷_, foldr}
 use lib.Ieee.{Float}
 use Rattle.rates.specs.Answers.{numberOf}
 use Rattle.decoder.specs.State.{started}
 use Rattle.decoder.specs.Frame.{lostFrom}
-use Rattle.decoder.specs.InPlace.{registersOf}
-use Rattle.decoder.specs.Calls.{Given, Call, start, frame, loss, framedBy, Reply}
 use Rattle.decoder.specs.declared.frame.Framed.{Framed}
+use Rattle.settling.specs.Calls.{Given, Call, start, frame, loss, framedBy, Reply}
 use Rattle.nabiteke.specs.Words.{asFlag, whereDone}
-use Rattle.nabiteke.specs.DecoderArrays.{DecoderArrays, arrays, readDecoder, numbersOf, writtenDecoder, pitchFrom}
+use Rattle.nabiteke.specs.DecoderArrays.{DecoderArrays, arrays, readDecoder, numbersOf, writtenDecoder, sideFrom}
 
 -- what a frame call is given beside the arrays
 abbrev pub given : List Float → List Float → ℕ → ℕ → ℕ → ℕ → List Float → Given
 given numerators denominators present index active nbits samples = record {
   numerators = numerators;
   denominators = denominators;
-  pitch = pitchFrom present index active;
-  nbits = nbits;
+  side = sideFrom present index active nbits;
   samples = samples;
 }
 
 -- a start writes the state that it gives, refused or not
-abbrev pub startCall : ℕ → ℕ → ℕ × DecoderArrays
+unfoldable pub startCall : ℕ → ℕ → ℕ × DecoderArrays
 startCall rate duration = (numberOf (started rate duration .answer), writtenDecoder (started rate duration .decoder))
 
 -- what C gets of a frame's result: the answer, the arrays, where the next state is written if it is done, and the samples at exit
 abbrev pub handed : DecoderArrays → Framed × List Float → ℕ × DecoderArrays × List Float
 handed a r = (numberOf (r .0 .answer), whereDone (r .0 .answer) (writtenDecoder (r .0 .decoder)) a, r .1)
 
-abbrev pub frameCall : DecoderArrays → Given → ℕ × DecoderArrays × List Float
+unfoldable pub frameCall : DecoderArrays → Given → ℕ × DecoderArrays × List Float
 frameCall a f = handed a (framedBy (readDecoder a) f)
 
 -- a loss mark writes numbers only
 abbrev pub handedNumbers : DecoderArrays → Framed → ℕ × DecoderArrays
-handedNumbers a r =
-    (numberOf (r .answer), arrays (whereDone (r .answer) (numbersOf (registersOf (r .decoder))) (a .numbers)) (a .kept) (a .inputs) (a .outputs))
+handedNumbers a r = (
+  numberOf (r .answer),
+  arrays (whereDone (r .answer) (numbersOf (r .decoder .registers) (r .decoder .«block_start_index»)) (a .numbers)) (a .kept) (a .inputs) (a .outputs),
+)
 
-abbrev pub lostCall : DecoderArrays → ℕ × DecoderArrays
+unfoldable pub lostCall : DecoderArrays → ℕ × DecoderArrays
 lostCall a = handedNumbers a (lostFrom (readDecoder a))
 
 -- the settled report
-abbrev pub settledCall : DecoderArrays → ℕ
-settledCall a = asFlag (readDecoder a .settled)
+unfoldable pub settledCall : DecoderArrays → ℕ
+settledCall a = asFlag (readDecoder a .registers .settled)
 
 -- What C sees of a call: its answer, the settled report after it, and the samples at exit.
 pub record Seen : Type 0 where
@@ -71,8 +71,7 @@ shown r = record { answer = numberOf (r .answer); settled = asFlag (r .settled);
 
 -- the arrays after all of the calls, the latest first, and what C saw of each
 abbrev pub arraysAfterAll : DecoderArrays → List Call → DecoderArrays
-arraysAfterAll a [] = a
-arraysAfterAll a (c ∷ earlier) = arraysAfter (arraysAfterAll a earlier) c
+arraysAfterAll a calls = foldr (λ c a. arraysAfter a c) a calls
 
 abbrev pub seenAll : DecoderArrays → List Call → List Seen
 seenAll a [] = []

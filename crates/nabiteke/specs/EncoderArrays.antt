@@ -21,7 +21,7 @@ abbrev pub arrays : List ℕ → List Float → List Float → List Float → Li
 arrays numbers memories s 12p8 6p4 = record { numbers = numbers; memories = memories; «x_s» = s; «x_12p8» = 12p8; «x_6p4» = 6p4 }
 
 -- the numbers are rate, duration, previous lag, active before; the memories those of the pitch, of two correlations and of the high-pass
-abbrev pub readEncoder : EncoderArrays → Encoder
+unfoldable pub readEncoder : EncoderArrays → Encoder
 readEncoder a = record {
   rate = getD (a .numbers) 0 0;
   duration = getD (a .numbers) 1 0;
@@ -46,7 +46,7 @@ abbrev pub memoriesOf : Encoder → List Float
 memoriesOf e =
     e .memory .«mem_pitch» ∷ e .memory .«mem_nc» ∷ e .memory .«mem_mem_nc» ∷ e .h50 .«h50_minus1» ∷ e .h50 .«h50_minus2» ∷ []
 
-abbrev pub writtenEncoder : Encoder → EncoderArrays
+unfoldable pub writtenEncoder : Encoder → EncoderArrays
 writtenEncoder e = arrays (numbersOf e) (memoriesOf e) (e .«x_s») (e .«x_12p8») (e .«x_6p4»)
 
 -- a record: present, index, active, bits

@@ -2,7 +2,7 @@
 use Prim.Native.Nat.{ℕ, _≤_}
 use mathlib.Core.Path.{_≡_}
 use mathlib.Core.Bool.{Bool}
-use mathlib.Core.List.{List, [], _∷_}
+use mathlib.Core.List.{List, [], _∷_, foldr}
 use lib.IntN.{ℤ}
 use lib.Ieee.{Float}
 use Rattle.rates.specs.Answers.{numberOf}
@@ -37,14 +37,14 @@ abbrev pub framedBy : Encoder → Given → Framed
 framedBy e f = framed e (f .resampling) (f .correlation) (f .signal) (f .samples) (f .nbits) (f .near)
 
 -- a start writes the state that it gives, refused or not
-abbrev pub startCall : ℕ → ℕ → ℕ × EncoderArrays
+unfoldable pub startCall : ℕ → ℕ → ℕ × EncoderArrays
 startCall rate duration = (numberOf (started rate duration .answer), writtenEncoder (started rate duration .encoder))
 
 -- what C gets of a frame's result: the answer, the arrays, where the next state is written if it is done, and the record
 abbrev pub handed : EncoderArrays → Framed → ℕ × EncoderArrays × List ℕ
 handed a r = (numberOf (r .answer), whereDone (r .answer) (writtenEncoder (r .encoder)) a, recordOf (r .pitch) (r .«nbits_ltpf»))
 
-abbrev pub frameCall : EncoderArrays → Given → ℕ × EncoderArrays × List ℕ
+unfoldable pub frameCall : EncoderArrays → Given → ℕ × EncoderArrays × List ℕ
 frameCall a f = handed a (framedBy (readEncoder a) f)
 
 -- Calls one after the other: a start or a frame.
@@ -63,12 +63,10 @@ arraysAfter a (frame f) = frameCall a f .1
 
 -- after all of the calls, the latest first
 abbrev pub afterAll : Encoder → List Call → Encoder
-afterAll e [] = e
-afterAll e (c ∷ earlier) = after (afterAll e earlier) c
+afterAll e calls = foldr (λ c e. after e c) e calls
 
 abbrev pub arraysAfterAll : EncoderArrays → List Call → EncoderArrays
-arraysAfterAll a [] = a
-arraysAfterAll a (c ∷ earlier) = arraysAfter (arraysAfterAll a earlier) c
+arraysAfterAll a calls = foldr (λ c a. arraysAfter a c) a calls
 
 -- what a frame call can answer and write into its record: refused, no pitch, or a pitch that a decoder takes
 pub data Recorded : ℕ → List ℕ → Type 0 where

@@ -1,26 +1,21 @@
-// A decoder's registers in the caller's arrays, and a frame's pitch in the caller's numbers.
+// A decoder's registers in the caller's arrays, and a frame's side information in the caller's numbers.
+use crate::words::answer_word;
 use crate::words::as_flag;
 use crate::words::is_yes;
 use crate::words::wide;
-use decoder::state::Registers;
+use control::judge::SideInfo;
+use control::registers::Registers;
+use decoder::frame::FramedInPlace;
 use lag::pitch::PitchRecord;
 use lag::pitch::Present;
 use lag::rescale::Lag;
+use slices::put;
 ghost use mathlib.Core.Path.{_≡_};
-ghost use Prim.Native.Nat.{_+_, _≤_};
+ghost use Prim.Native.Nat.{_<_, _^_};
 ghost use lib.ListN.{length, take, drop};
-ghost use Rattle.decoder.specs.Ring.{stored};
-ghost use Rattle.nabiteke.specs.DecoderArrays.{registersFrom, readRegisters, numbersOf, keptOf, Fits32, pitchFrom};
-
-// Copies a block into a slice, from the place given.
-fn put(into: &mut [f32], at: usize, block: &[f32])
-    requires { ⌜ at + length (now block) ≤ length (now into) ⌝ }
-    ensures { λ _. ⌜ now (into .exit) ≡ stored (now (into .entry)) at (now (block .entry)) ⌝ }
-{
-    for i in 0..block.len() {
-        into[at + i] = block[i];
-    }
-}
+ghost use Rattle.rates.specs.Answers.{numberOf};
+ghost use Rattle.nabiteke.specs.Words.{whereDone};
+ghost use Rattle.nabiteke.specs.DecoderArrays.{registersFrom, readRegisters, numbersOf, keptOf, Fits32, sideFrom};
 
 // The numerator coefficients.
 fn read_numerators(kept: &[f32]) -> [f32; 11]
@@ -32,7 +27,7 @@ fn read_numerators(kept: &[f32]) -> [f32; 11]
     c_num
 }
 
-// The denominator coefficients behind them.
+// The denominator coefficients after them.
 fn read_denominators(kept: &[f32]) -> [f32; 13]
     requires { ⌜ length (now kept) ≡ 24 ⌝ }
     ensures { λ r. ⌜ r ≡ take 13 (drop 11 (now (kept .entry))) ⌝ }
@@ -42,7 +37,7 @@ fn read_denominators(kept: &[f32]) -> [f32; 13]
     c_den
 }
 
-// Both, one behind the other.
+// Both, one after the other.
 fn write_kept(kept: &mut [f32], registers: Registers)
     requires { ⌜ length (now kept) ≡ 24 ⌝ }
     ensures { λ _. ⌜ now (kept .exit) ≡ keptOf registers ⌝ }
@@ -55,7 +50,7 @@ fn write_kept(kept: &mut [f32], registers: Registers)
 
 // The registers that the numbers and the coefficients are.
 pub(crate) fn registers_from(numbers: &[u32; 8], c_num: [f32; 11], c_den: [f32; 13]) -> Registers
-    ensures { λ r. ⌜ (r ≡ registersFrom (now (numbers .entry)) «c_num» «c_den») × Fits32 r ⌝ }
+    ensures { λ r. ⌜ (r ≡ registersFrom (now (numbers .entry)) «c_num» «c_den») × (r .lag .whole < 2 ^ 32) × (r .lag .quarter < 2 ^ 32) ⌝ }
 {
     let lag = Lag {
         whole: wide(numbers[4]),
@@ -65,36 +60,12 @@ pub(crate) fn registers_from(numbers: &[u32; 8], c_num: [f32; 11], c_den: [f32; 
         rate: numbers[0],
         duration: numbers[1],
         ltpf_active_prev: is_yes(numbers[2]),
-        block_start_index: wide(numbers[3]),
         c_num,
         c_den,
         lag,
         run: numbers[6],
         settled: is_yes(numbers[7]),
     }
-}
-
-// The numbers of registers.
-pub(crate) fn write_numbers(numbers: &mut [u32; 8], registers: Registers)
-    requires { ⌜ Fits32 registers ⌝ }
-    ensures { λ _. ⌜ now (numbers .exit) ≡ numbersOf registers ⌝ }
-{
-    let lag = registers.lag;
-    let active = as_flag(registers.ltpf_active_prev);
-    let start = registers.block_start_index as u32;
-    let whole = lag.whole as u32;
-    let quarter = lag.quarter as u32;
-    let settled = as_flag(registers.settled);
-    *numbers = [
-        registers.rate,
-        registers.duration,
-        active,
-        start,
-        whole,
-        quarter,
-        registers.run,
-        settled,
-    ];
 }
 
 // The registers in the caller's arrays.
@@ -106,22 +77,85 @@ pub(crate) fn read_registers(numbers: &[u32; 8], kept: &[f32; 24]) -> Registers
     registers_from(numbers, c_num, c_den)
 }
 
-// Puts registers into the caller's arrays.
-pub(crate) fn write_registers(numbers: &mut [u32; 8], kept: &mut [f32; 24], registers: Registers)
-    requires { ⌜ Fits32 registers ⌝ }
-    ensures { λ _. ⌜ (now (numbers .exit) ≡ numbersOf registers) × (now (kept .exit) ≡ keptOf registers) ⌝ }
+// The numbers of registers and a block start.
+fn write_numbers(numbers: &mut [u32; 8], registers: Registers, start: usize)
+    requires { ⌜ Fits32 registers start ⌝ }
+    ensures { λ _. ⌜ now (numbers .exit) ≡ numbersOf registers start ⌝ }
 {
-    write_numbers(numbers, registers);
+    let lag = registers.lag;
+    let active = as_flag(registers.ltpf_active_prev);
+    let block = start as u32;
+    let whole = lag.whole as u32;
+    let quarter = lag.quarter as u32;
+    let settled = as_flag(registers.settled);
+    *numbers = [
+        registers.rate,
+        registers.duration,
+        active,
+        block,
+        whole,
+        quarter,
+        registers.run,
+        settled,
+    ];
+}
+
+// Puts registers and a block start into the caller's arrays.
+pub(crate) fn write_registers(
+    numbers: &mut [u32; 8],
+    kept: &mut [f32; 24],
+    registers: Registers,
+    start: usize,
+)
+    requires { ⌜ Fits32 registers start ⌝ }
+    ensures { λ _. ⌜ (now (numbers .exit) ≡ numbersOf registers start) × (now (kept .exit) ≡ keptOf registers) ⌝ }
+{
+    write_numbers(numbers, registers, start);
     write_kept(kept, registers);
 }
 
-// The pitch record that three numbers are.
-pub(crate) fn read_pitch(present: u32, index: u32, active: u32) -> PitchRecord
-    ensures { λ r. ⌜ r ≡ pitchFrom present index active ⌝ }
+// Puts the numbers of a call's result into the caller's, where the call is done. Gives the number of its answer.
+pub(crate) fn write_numbers_if_done(numbers: &mut [u32; 8], result: FramedInPlace) -> u32
+    requires { ⌜ (numberOf (result .answer) ≡ 0 → Fits32 (result .registers) (result .«block_start_index»)) ⌝ }
+    ensures { λ r. ⌜ (r ≡ numberOf (result .answer)) × (now (numbers .exit) ≡ whereDone (result .answer) (numbersOf (result .registers) (result .«block_start_index»)) (now (numbers .entry))) ⌝ }
+{
+    let answer = result.answer;
+    let number = answer_word(answer);
+    if number != 0 {
+        return number;
+    }
+    let registers = result.registers;
+    write_numbers(numbers, registers, result.block_start_index);
+    0
+}
+
+// The same, and the coefficients with them.
+pub(crate) fn write_if_done(
+    numbers: &mut [u32; 8],
+    kept: &mut [f32; 24],
+    result: FramedInPlace,
+) -> u32
+    requires { ⌜ (numberOf (result .answer) ≡ 0 → Fits32 (result .registers) (result .«block_start_index»)) ⌝ }
+    ensures { λ r. ⌜ (r ≡ numberOf (result .answer)) × (now (numbers .exit) ≡ whereDone (result .answer) (numbersOf (result .registers) (result .«block_start_index»)) (now (numbers .entry))) × (now (kept .exit) ≡ whereDone (result .answer) (keptOf (result .registers)) (now (kept .entry))) ⌝ }
+{
+    let word = write_numbers_if_done(numbers, result);
+    if word != 0 {
+        return word;
+    }
+    let registers = result.registers;
+    write_kept(kept, registers);
+    0
+}
+
+// The pitch record that three numbers are, and with it the frame's bits.
+pub(crate) fn read_side(present: u32, index: u32, active: u32, nbits: u32) -> SideInfo
+    ensures { λ r. ⌜ r ≡ sideFrom present index active nbits ⌝ }
 {
     if is_yes(present) {
         let active = is_yes(active);
-        return PitchRecord::Present(Present { index, active });
+        let pitch = PitchRecord::Present(Present { index, active });
+        return SideInfo { pitch, nbits };
     }
-    PitchRecord::Absent
+    let pitch = PitchRecord::Absent;
+    SideInfo { pitch, nbits }
 }

@@ -1,15 +1,16 @@
 // The decoder's functions for C.
-use crate::decoder_arrays::read_pitch;
 use crate::decoder_arrays::read_registers;
+use crate::decoder_arrays::read_side;
 use crate::decoder_arrays::registers_from;
-use crate::decoder_arrays::write_numbers;
+use crate::decoder_arrays::write_if_done;
+use crate::decoder_arrays::write_numbers_if_done;
 use crate::decoder_arrays::write_registers;
 use crate::words::answer_word;
 use crate::words::as_flag;
 use crate::words::is_yes;
+use crate::words::wide;
 use decoder::frame::frame_in_place;
 use decoder::frame::lost_in_place;
-use decoder::state::Registers;
 use decoder::state::start;
 ghost use mathlib.Core.Path.{_≡_};
 ghost use mathlib.Core.List.{List};
@@ -32,23 +33,10 @@ pub extern "C" fn nabiteke_decoder_start_(
     let started = start(rate, duration);
     let answer = started.answer;
     let decoder = started.decoder;
-    let c_num = decoder.c_num;
-    let c_den = decoder.c_den;
-    let lag = decoder.lag;
+    let registers = decoder.registers;
     let x_hat_mem = decoder.x_hat_mem;
     let x_hat_ltpf_mem = decoder.x_hat_ltpf_mem;
-    let registers = Registers {
-        rate: decoder.rate,
-        duration: decoder.duration,
-        ltpf_active_prev: decoder.ltpf_active_prev,
-        block_start_index: decoder.block_start_index,
-        c_num,
-        c_den,
-        lag,
-        run: decoder.run,
-        settled: decoder.settled,
-    };
-    write_registers(numbers, kept, registers);
+    write_registers(numbers, kept, registers, decoder.block_start_index);
     *inputs = x_hat_mem;
     *outputs = x_hat_ltpf_mem;
     answer_word(answer)
@@ -72,25 +60,19 @@ pub extern "C" fn nabiteke_decoder_frame_(
     ensures { λ r. ⌜ (r, arrays (now (numbers .exit)) (now (kept .exit)) (now (inputs .exit)) (now (outputs .exit)), now (samples .exit)) ≡ frameCall (arrays (now (numbers .entry)) (now (kept .entry)) (now (inputs .entry)) (now (outputs .entry))) (given (now (numerators .entry)) (now (denominators .entry)) «pitch_present» «pitch_index» «pitch_active» nbits (now (samples .entry))) ⌝ }
 {
     let registers = read_registers(numbers, kept);
-    let pitch = read_pitch(pitch_present, pitch_index, pitch_active);
-    let stepped = frame_in_place(
+    let block_start_index = wide(numbers[3]);
+    let side = read_side(pitch_present, pitch_index, pitch_active, nbits);
+    let framed = frame_in_place(
         registers,
+        block_start_index,
         inputs,
         outputs,
         numerators,
         denominators,
-        pitch,
-        nbits,
+        side,
         samples,
     );
-    let answer = stepped.answer;
-    let word = answer_word(answer);
-    if word != 0 {
-        return word;
-    }
-    let next = stepped.registers;
-    write_registers(numbers, kept, next);
-    0
+    write_if_done(numbers, kept, framed)
 }
 
 // Marks that frames were lost before the next one.
@@ -99,15 +81,8 @@ pub extern "C" fn nabiteke_decoder_lost_(numbers: &mut [u32; 8]) -> u32
     ensures { λ r. ⌜ ((kept inputs outputs : List Float) → (r, arrays (now (numbers .exit)) kept inputs outputs) ≡ lostCall (arrays (now (numbers .entry)) kept inputs outputs)) ⌝ }
 {
     let registers = registers_from(numbers, [0.0; 11], [0.0; 13]);
-    let marked = lost_in_place(registers);
-    let answer = marked.answer;
-    let number = answer_word(answer);
-    if number != 0 {
-        return number;
-    }
-    let next = marked.registers;
-    write_numbers(numbers, next);
-    0
+    let marked = lost_in_place(registers, wide(numbers[3]));
+    write_numbers_if_done(numbers, marked)
 }
 
 // Whether the decoder has settled.

@@ -1,13 +1,17 @@
 // An encoder's state in the caller's arrays, and what a frame gives as the caller's numbers.
+use crate::words::answer_word;
 use crate::words::as_flag;
 use crate::words::is_yes;
 use crate::words::wide;
+use encoder::frame::Framed;
 use encoder::state::Encoder;
 use found::activation::Memory;
 use lag::pitch::PitchRecord;
 use signals::highpass::HighPass;
 ghost use mathlib.Core.Path.{_≡_};
 ghost use Prim.Native.Nat.{_<_, _^_};
+ghost use Rattle.rates.specs.Answers.{numberOf};
+ghost use Rattle.nabiteke.specs.Words.{whereDone};
 ghost use Rattle.nabiteke.specs.EncoderArrays.{arrays, readEncoder, numbersOf, memoriesOf, writtenEncoder, recordOf};
 
 // The state in the caller's arrays.
@@ -91,6 +95,29 @@ pub(crate) fn write_encoder(
     *x_s = next_s;
     *x_12p8 = next_12p8;
     *x_6p4 = next_6p4;
+}
+
+// Puts the state of a frame's result into the caller's arrays, where the frame is done. Gives the number of its
+// answer.
+pub(crate) fn write_encoder_if_done(
+    numbers: &mut [u32; 4],
+    memories: &mut [f32; 5],
+    x_s: &mut [f32; 60],
+    x_12p8: &mut [f32; 276],
+    x_6p4: &mut [f32; 114],
+    result: Framed,
+) -> u32
+    requires { ⌜ (numberOf (result .answer) ≡ 0 → result .encoder .«t_prev» < 2 ^ 32) ⌝ }
+    ensures { λ r. ⌜ (r ≡ numberOf (result .answer)) × (arrays (now (numbers .exit)) (now (memories .exit)) (now («x_s» .exit)) (now («x_12p8» .exit)) (now («x_6p4» .exit)) ≡ whereDone (result .answer) (writtenEncoder (result .encoder)) (arrays (now (numbers .entry)) (now (memories .entry)) (now («x_s» .entry)) (now («x_12p8» .entry)) (now («x_6p4» .entry)))) ⌝ }
+{
+    let answer = result.answer;
+    let word = answer_word(answer);
+    if word != 0 {
+        return word;
+    }
+    let encoder = result.encoder;
+    write_encoder(numbers, memories, x_s, x_12p8, x_6p4, encoder);
+    0
 }
 
 // A pitch record and its bits as four numbers.

@@ -1,6 +1,7 @@
 // The encoder's functions for C.
 use crate::encoder_arrays::read_encoder;
 use crate::encoder_arrays::write_encoder;
+use crate::encoder_arrays::write_encoder_if_done;
 use crate::encoder_arrays::write_record;
 use crate::words::answer_word;
 use crate::words::is_yes;
@@ -49,15 +50,8 @@ pub extern "C" fn nabiteke_encoder_frame_(
 {
     let encoder = read_encoder(numbers, memories, x_s, x_12p8, x_6p4);
     let near = is_yes(near_nyquist);
-    let frame = encoder.frame(resampling, correlation, signal, samples, nbits, near);
-    let answer = frame.answer;
-    let pitch = frame.pitch;
-    write_record(record, pitch, frame.nbits_ltpf);
-    let word = answer_word(answer);
-    if word != 0 {
-        return word;
-    }
-    let next = frame.encoder;
-    write_encoder(numbers, memories, x_s, x_12p8, x_6p4, next);
-    0
+    let framed = encoder.frame(resampling, correlation, signal, samples, nbits, near);
+    let pitch = framed.pitch;
+    write_record(record, pitch, framed.nbits_ltpf);
+    write_encoder_if_done(numbers, memories, x_s, x_12p8, x_6p4, framed)
 }

@@ -6,11 +6,12 @@ use mathlib.Core.List.{List}
 use native.Mathlib.Omega.{arith}
 use borrow.Author.Tests.{ltb-true, le-ltb, ne-eqb, leb-true, le-leb}
 use lib.Dec.{leb}
-use lib.Ieee.{Float, nan, inf, fin, up, down, lt, div}
+use lib.Ieee.{Float, nan, inf, fin, up, down, lt, div, round}
 use lib.ListN.{length, take, drop, length-take, length-drop}
 use Rattle.floats.specs.Single.{_⊗_, 0·0, decimal, at}
+use Rattle.root.specs.SquareRoot.{rootOf}
 use Rattle.root.specs.declared.Root.the-variants.{Root as found}
-use Rattle.search.specs.Pitch.{correlation, correlations, weight, weighted, searched, indexOfMax, nearFrom, nearTo, lag1, lag2, overRoot, withPresence, chosen, detected, lagWithin}
+use Rattle.search.specs.Pitch.{correlation, energy, correlations, weight, weighted, searched, indexOfMax, nearFrom, nearTo, lag1, lag2, overRoot, normalised, withPresence, chosen, detected, lagWithin}
 use Rattle.search.proofs.Listed.{listOf-length, listOf-at}
 
 -- a search among n entries stays among them
@@ -120,6 +121,14 @@ zero-root-is-infinite (inf false) h = refl
 zero-root-is-infinite (fin true m e) h = absurd (true≢false (sym h))
 zero-root-is-infinite (fin false zero e) h = absurd (omega (arith, ltb-true (0 * down e) (0 * up e * 1) h))
 zero-root-is-infinite (fin false (suc m) e) h = rw (ne-eqb (suc m) 0 (λ z. omega arith))
+
+-- energies whose product is rounded to 0.0 make a correlation above 0.0 infinite, and the pitch at that lag present
+pub zero-energies : (x : List Float) (len lag : ℕ) → energy x len 0 ⊗ energy x len lag ≡ 0·0 → lt 0·0 (correlation x len lag) ≡ true →
+    (normalised x len lag ≡ inf false) × (withPresence lag (normalised x len lag) .present ≡ true)
+unfolding normalised rootOf lt round
+zero-energies x len lag z h =
+    let infinite : normalised x len lag ≡ inf false = rw z (zero-root-is-infinite (correlation x len lag) h) in
+    (infinite, rw infinite)
 
 -- the lag that the second search starts from
 pub within-range : (t : ℕ) → (17 ≤ lagWithin t) × (lagWithin t ≤ 114)

@@ -1,5 +1,6 @@
 -- `registers_from` reads each number once.
 use borrow.Author.Needs.{needs}
+use Rattle.nabiteke.specs.DecoderArrays.{registersFrom}
 use Rattle.nabiteke.proofs.decoder_arrays.registers_from.Statement.{statement}
 use Rattle.nabiteke.proofs.decoder_arrays.registers_from.Tie as tie
 
@@ -27,14 +28,8 @@ element-copy-out-is-yes c = search needs
 is-yes-requires : tie.Need-is-yes-requires
 is-yes-requires c κs = search needs
 
-element-copy-out-wide-3 : tie.Need-element-copy-out-wide-3
-element-copy-out-wide-3 c = search needs
-
-wide-requires-3 : tie.Need-wide-requires-3
-wide-requires-3 c κs = search needs
-
-element-copy-out-t26 : tie.Need-element-copy-out-t26
-element-copy-out-t26 c = search needs
+element-copy-out-t23 : tie.Need-element-copy-out-t23
+element-copy-out-t23 c = search needs
 
 element-copy-out-is-yes-2 : tie.Need-element-copy-out-is-yes-2
 element-copy-out-is-yes-2 c = search needs
@@ -43,9 +38,11 @@ is-yes-requires-2 : tie.Need-is-yes-requires-2
 is-yes-requires-2 c κs = search needs
 
 returns : tie.Need-returns
+unfolding registersFrom
 returns c = (
-  rw (c .before .before .before .before .before .is-yes .ensures, c .is-yes2 .ensures, c .before .before .before .before .before .before .before .before .before .before .before .wide .ensures .0, c .before .before .before .before .before .before .before .before .before .wide2 .ensures .0, c .before .before .before .wide3 .ensures .0),
-  record { start = c .before .before .before .wide3 .ensures .1; whole = c .before .before .before .before .before .before .before .before .before .before .before .wide .ensures .1; quarter = c .before .before .before .before .before .before .before .before .before .wide2 .ensures .1 },
+  rw (c .before .before .before .is-yes .ensures, c .is-yes2 .ensures, c .before .before .before .before .before .before .before .before .before .wide .ensures .0, c .before .before .before .before .before .before .before .wide2 .ensures .0),
+  c .before .before .before .before .before .before .before .before .before .wide .ensures .1,
+  c .before .before .before .before .before .before .before .wide2 .ensures .1,
 )
 
 pub registers-from-spec : {M : Type 1} → statement M
@@ -60,9 +57,7 @@ registers-from-spec =
     element-copy-out-t12
     element-copy-out-is-yes
     is-yes-requires
-    element-copy-out-wide-3
-    wide-requires-3
-    element-copy-out-t26
+    element-copy-out-t23
     element-copy-out-is-yes-2
     is-yes-requires-2
     returns)

@@ -1,5 +1,6 @@
 -- `read_encoder` reads each number and each memory once, and the histories whole.
 use borrow.Author.Needs.{needs}
+use Rattle.nabiteke.specs.EncoderArrays.{readEncoder}
 use Rattle.nabiteke.proofs.encoder_arrays.read_encoder.Statement.{statement}
 use Rattle.nabiteke.proofs.encoder_arrays.read_encoder.Tie as tie
 
@@ -37,6 +38,7 @@ wide-requires : tie.Need-wide-requires
 wide-requires c κs = search needs
 
 returns : tie.Need-returns
+unfolding readEncoder
 returns c = rw (c .before .before .before .before .before .before .before .before .before .before .before .is-yes .ensures, c .wide .ensures .0)
 
 pub read-encoder-spec : {M : Type 1} → statement M

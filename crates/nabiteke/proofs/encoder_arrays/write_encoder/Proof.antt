@@ -1,5 +1,6 @@
 -- `write_encoder`: the numbers, the memories, and the histories whole.
 use borrow.Author.Needs.{needs}
+use Rattle.nabiteke.specs.EncoderArrays.{writtenEncoder}
 use Rattle.nabiteke.proofs.encoder_arrays.write_encoder.Statement.{statement}
 use Rattle.nabiteke.proofs.encoder_arrays.write_encoder.Tie as tie
 
@@ -10,6 +11,7 @@ write-memories-requires : tie.Need-write-memories-requires
 write-memories-requires c κs = search needs
 
 returns : tie.Need-returns
+unfolding writtenEncoder
 returns c = rw (c .before .before .write-numbers .ensures, c .write-memories .ensures)
 
 pub write-encoder-spec : {M : Type 1} → statement M

@@ -1,6 +1,7 @@
 -- `nabiteke_encoder_start_` writes the state of a start.
 use Rattle.nabiteke.proofs.EncoderCalls.{started-fits}
 use borrow.Author.Needs.{needs}
+use Rattle.nabiteke.specs.EncoderCalls.{startCall}
 use Rattle.nabiteke.proofs.encoder_calls.nabiteke_encoder_start_.Statement.{statement}
 use Rattle.nabiteke.proofs.encoder_calls.nabiteke_encoder_start_.Tie as tie
 
@@ -14,6 +15,7 @@ answer-word-requires : tie.Need-answer-word-requires
 answer-word-requires c κs = search needs
 
 returns : tie.Need-returns
+unfolding startCall
 returns c = rw (c .answer-word .ensures, c .before .write-encoder .ensures, c .before .before .before .before .before .before .before .before .start .ensures)
 
 pub nabiteke-encoder-start--spec : {M : Type 1} → statement M

@@ -1,0 +1,58 @@
+-- ONE CALL AND ITS MARKS. What a start, a frame and a loss mark do to the run of inactive frames and to the settled mark, said without the
+-- definitions that the program computes them by.
+use Prim.Native.Nat.{ℕ, _+_, _≤_, _<_, min}
+use mathlib.Core.Path.{_≡_, refl}
+use mathlib.Core.Bool.{Bool, true, false, not, _&&_, _||_}
+use native.Mathlib.Omega.{arith}
+use borrow.Author.Tests.{leb-true, leb-false, eq-eqb, ne-eqb}
+use lib.Dec.{leb, eqb}
+use Rattle.rates.specs.declared.duration.FrameDuration.{FrameDuration}
+use Rattle.filter.specs.declared.coefficients.Taps.{Taps}
+use Rattle.control.specs.State.{clearedRegisters, settledLimit, runAfter}
+use Rattle.control.specs.Next.{nextRegisters, unsettled}
+use Rattle.control.specs.declared.registers.Registers.{Registers}
+use Rattle.control.specs.declared.judge.Plan.{Plan}
+use Rattle.control.proofs.Fit.{limit-some}
+
+-- a start has no run and is not settled
+pub start-unmarked : (rate duration : ℕ) → (clearedRegisters rate duration .run ≡ 0) × (clearedRegisters rate duration .settled ≡ false)
+unfolding clearedRegisters
+start-unmarked rate duration = (refl, refl)
+
+-- nor has what a loss mark leaves
+pub loss-unmarks : (r : Registers) → (unsettled r .run ≡ 0) × (unsettled r .settled ≡ false)
+loss-unmarks r = (refl, refl)
+
+-- one more inactive frame reaches the limit, or leaves the run below it
+reaches : (t : FrameDuration) (active : Bool) (run : ℕ) → eqb (runAfter t active run) (settledLimit t) ≡ (not active && leb (settledLimit t) (run + 1))
+reaches t true run = ne-eqb 0 (settledLimit t) (λ e. omega (arith, limit-some t))
+reaches t false run = go (leb (settledLimit t) (run + 1)) refl
+  where
+    go : (b : Bool) → leb (settledLimit t) (run + 1) ≡ b → eqb (min (run + 1) (settledLimit t)) (settledLimit t) ≡ b
+    go true e = eq-eqb (min (run + 1) (settledLimit t)) (settledLimit t) (omega (arith, leb-true (settledLimit t) (run + 1) e))
+    go false e = ne-eqb (min (run + 1) (settledLimit t)) (settledLimit t) (λ h. omega (arith, leb-false (settledLimit t) (run + 1) e))
+
+module _ (r : Registers) (plan : Plan) (new : Taps) where
+  -- a frame counts as one at most
+  pub counts-once : nextRegisters r plan new .run ≤ r .run + 1
+  unfolding nextRegisters
+  counts-once = go (plan .active)
+    where
+      go : (b : Bool) → runAfter (plan .config .«n_ms») b (r .run) ≤ r .run + 1
+      go true = omega arith
+      go false = omega arith
+
+  -- an active frame ends the run
+  pub active-ends-run : plan .active ≡ true → nextRegisters r plan new .run ≡ 0
+  unfolding nextRegisters
+  active-ends-run p = rw p
+
+  -- an inactive frame below the limit counts as one
+  pub inactive-counts : plan .active ≡ false → r .run < settledLimit (plan .config .«n_ms») → nextRegisters r plan new .run ≡ r .run + 1
+  unfolding nextRegisters
+  inactive-counts p h = rw p (omega arith)
+
+  -- settled: it was so, or this is an inactive frame that makes the run as long as the limit
+  pub settles-exactly : nextRegisters r plan new .settled ≡ (r .settled || (not (plan .active) && leb (settledLimit (plan .config .«n_ms»)) (r .run + 1)))
+  unfolding nextRegisters
+  settles-exactly = rw (reaches (plan .config .«n_ms») (plan .active) (r .run))

@@ -1,0 +1,121 @@
+-- An accepted frame: what of it matters after judging, the state that it leaves, fit again, and the pasts moved along by it.
+use Prim.Native.Nat.{ℕ, _+_, _%_, _≤_}
+use mathlib.Core.Path.{_≡_, refl, _∙_}
+use mathlib.Core.Bool.{Bool, true}
+use mathlib.Core.List.{List, _++_}
+use native.Mathlib.Omega.{arith}
+use borrow.Author.Tests.{eqb-true}
+use lib.Dec.{ltb, eqb}
+use lib.Ieee.{Float}
+use lib.ListN.{length, drop, length-append, length-drop}
+use Rattle.slices.specs.Slices.{stored}
+use Rattle.slices.proofs.Stored.{length-stored}
+use Rattle.rates.specs.declared.config.Lc3Config.{Lc3Config}
+use Rattle.rates.proofs.Known.{both}
+use Rattle.lag.specs.declared.gain.Gain.{Gain}
+use Rattle.lag.specs.declared.rescale.Lag.{Lag}
+use Rattle.filter.specs.Transition.{transitionOf, outputs, caseActivated, caseDeactivated, casePitchKept, casePitchChanged}
+use Rattle.filter.specs.declared.coefficients.Taps.{Taps}
+use Rattle.filter.specs.declared.transition.Transition.{Transition}
+use Rattle.filter.specs.declared.transition.Transition.the-variants.{Inactive, Activated, Deactivated, ActiveNoPitchChange, ActivePitchChanged}
+use Rattle.filter.proofs.Growing.{length-grow}
+use Rattle.control.specs.State.{lagFits}
+use Rattle.control.specs.Next.{nextRegisters}
+use Rattle.control.specs.declared.registers.Registers.{Registers}
+use Rattle.control.specs.declared.judge.Plan.{Plan}
+use Rattle.control.proofs.StaysFit.{next-lag, stays-fit}
+use Rattle.decoder.specs.Ring.{straight, nextBlock}
+use Rattle.decoder.specs.State.{blockFits}
+use Rattle.decoder.specs.Frame.{filtered, tapsFor, accepted}
+use Rattle.decoder.specs.declared.state.Decoder.{Decoder}
+use Rattle.decoder.proofs.MovingPast.{past-moves-along}
+use Rattle.decoder.proofs.RingFits.{next-block}
+use Rattle.settling.specs.Calls.{FitState}
+use Rattle.settling.proofs.Held.{held, past-x, past-y}
+
+-- whether it is active, its gain and its lag, the lent rows and its samples
+pub record Admitted (c : Lc3Config) : Type 0 where
+  pub active : Bool
+  pub gain : Gain
+  pub lag : Lag
+  pub numerators : List Float
+  pub denominators : List Float
+  pub samples : List Float
+  pub lag-fits : lagFits (c .fs) active lag ≡ true
+  pub count : length samples ≡ c .nf
+
+-- the plan for it
+abbrev pub planWith : Registers → Lc3Config → Bool → Gain → Lag → Plan
+planWith r c active gain lag = record {
+  config = c;
+  active = active;
+  lag = lag;
+  gain = gain;
+  transition = transitionOf (r .«ltpf_active_prev») active (r .lag) lag;
+}
+
+abbrev pub planFor : {c : Lc3Config} → Decoder → Admitted c → Plan
+planFor {c} d f = planWith (d .registers) c (f .active) (f .gain) (f .lag)
+
+-- the state after it, and its outputs
+abbrev pub admit : {c : Lc3Config} → Decoder → Admitted c → Decoder × List Float
+admit d f = accepted d (planFor d f) (f .numerators) (f .denominators) (f .samples)
+
+-- the outputs, with their past, are as many as the inputs
+outputs-long : (t : Transition) (old new : Taps) (fade : ℕ) (x p : List Float) → length p + fade ≤ length x → length (outputs t old new fade x p) ≡ length x
+unfolding outputs caseActivated caseDeactivated casePitchKept casePitchChanged
+outputs-long Inactive old new fade x p h = simp (length-append, length-drop) (omega arith)
+outputs-long Activated old new fade x p h = simp length-grow (omega arith)
+outputs-long Deactivated old new fade x p h = simp (length-append, length-grow, length-drop) (omega arith)
+outputs-long ActiveNoPitchChange old new fade x p h = simp length-grow (omega arith)
+outputs-long ActivePitchChanged old new fade x p h = simp length-grow (omega arith)
+
+module _ {c : Lc3Config} {d : Decoder} (s : FitState c d) (f : Admitted c) where
+  -- a ring with a frame stored holds the past moved along by it
+  moves-along : (ring block : List Float) → length ring ≡ 1080 → length block ≡ c .nf →
+      straight (stored ring (d .«block_start_index») block) (c .history) (nextBlock (c .history) (c .nf) (d .«block_start_index»)) ≡
+      drop (c .nf) (straight ring (c .history) (d .«block_start_index») ++ block)
+  moves-along ring block l e =
+      let k = held c d s in
+      past-moves-along ring block (c .history) (c .nf) (d .«block_start_index») e (k .block-within) (omega (arith, k .sizes .past-fits))
+
+  -- and is as long as before
+  stays-long : (ring block : List Float) → length ring ≡ 1080 → length block ≡ c .nf → length (stored ring (d .«block_start_index») block) ≡ 1080
+  stays-long ring block l e =
+      let k = held c d s in
+      let start = d .«block_start_index» in
+      length-stored ring block start (start + length block) refl (omega (arith, k .block-within, k .sizes .past-fits)) ∙ l
+
+  pub admit-long : length (admit d f .1) ≡ c .nf
+  unfolding accepted filtered
+  admit-long =
+      let k = held c d s in
+      let z = k .sizes in
+      let n = f .count in
+      let all : length (past-x c d ++ f .samples) ≡ c .history + c .nf = simp length-append (omega (arith, k .long-x)) in
+      simp length-drop (rw (outputs-long _ _ (tapsFor (planFor d f) (f .numerators) (f .denominators)) (c .fs .fade) (past-x c d ++ f .samples) (past-y c d) (omega (arith, k .long-y)), all) (omega arith))
+
+  pub admit-fit : FitState c (admit d f .0)
+  unfolding accepted nextRegisters blockFits
+  admit-fit =
+      let k = held c d s in
+      let start = d .«block_start_index» in
+      let new = tapsFor (planFor d f) (f .numerators) (f .denominators) in
+      let multiple = eqb-true (start % c .nf) 0 (both (ltb start (c .history)) (eqb (start % c .nf) 0) (k .block) .1) in
+      record {
+        found = rw (
+          k .fitting .config,
+          stays-fit (d .registers) (planFor d f) new (next-lag (c .fs) (f .active) (f .gain) (f .lag) (f .numerators) (f .denominators) (f .lag-fits)),
+          next-block c start (omega (arith, k .sizes)) (k .block-within) multiple,
+        );
+        inputs = stays-long (d .«x_hat_mem») (f .samples) (s .inputs) (f .count);
+        outputs = stays-long (d .«x_hat_ltpf_mem») (admit d f .1) (s .outputs) admit-long;
+      }
+
+  pub past-x-next : past-x c (admit d f .0) ≡ drop (c .nf) (past-x c d ++ f .samples)
+  unfolding accepted
+  past-x-next = moves-along (d .«x_hat_mem») (f .samples) (s .inputs) (f .count)
+
+  pub past-y-next : past-y c (admit d f .0) ≡ drop (c .nf) (past-y c d ++ admit d f .1)
+  unfolding accepted
+  past-y-next = moves-along (d .«x_hat_ltpf_mem») (admit d f .1) (s .outputs) admit-long

@@ -1,0 +1,19 @@
+-- The laws of settling, low to high.
+pub mod Held
+pub mod Admitted
+pub mod Judging
+pub mod FitStates
+pub mod Hearing
+pub mod Counting
+pub mod Following
+pub mod SettledExactly
+pub mod Agreeing
+pub mod Quieting
+pub mod Agreement
+pub mod Shared
+pub mod Together
+pub mod Nans
+pub mod Silence
+pub mod SilentState
+pub mod NoisyState
+pub mod TwoFrames

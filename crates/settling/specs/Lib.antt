@@ -1,0 +1,2 @@
+-- What the laws of settling speak of: calls one after the other.
+pub mod Calls
