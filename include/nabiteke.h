@@ -39,7 +39,7 @@
  * Time
  *
  *   The slowest frames are those of subnormal numbers, and an encoder that falls into digital silence stays in them. On
- *   x86-64 they take 10 to 90 times the typical frame, still less than 2% of a frame's duration (docs/BENCHMARK.md).
+ *   x86-64 they take 10 to 90 times the typical frame, still about 2% of a frame's duration at most (docs/BENCHMARK.md).
  *
  * Stack
  *

@@ -1,5 +1,5 @@
 // The faults that the customer named in the given Rust, each with a smallest input: what the given
-// Rust gives and what 01 asks go to standard error, and vectors keep our answers. Beside them stand three
+// Rust gives and what the scope asks go to standard error, and vectors keep our answers. Beside them stand three
 // rare outcomes in which both agree: a root of 0, index 379, and no correlation above 0.0.
 use crate::decoder_judge::{first_difference, same_samples, DecoderJudge};
 use crate::encoder_judge::EncoderJudge;
@@ -95,7 +95,7 @@ fn overwritten_fade<W: Write>(judge: &mut DecoderJudge<W>, set: &Set, hz: u32, i
     judge.frame(active(index), BITS, samples);
 }
 
-// For each rate, the first index whose case 5 differs at 10 ms, beside the lag of 01's list.
+// For each rate, the first index whose case 5 differs at 10 ms, beside the lag of the scope's list.
 fn reread_lags() {
     let mut ones = Set::random(&mut crate::random::Random::new(0));
     ones.numerators
@@ -210,7 +210,7 @@ fn encoder_fault<W: Write>(
         let theirs = rust.frame(false, BITS, frame).expect("no panic");
         let ours = judge.frame(false, BITS, frame);
         eprintln!(
-            "  Rust: present {}, index {}, active {}, bits {}; 01: {:?}, bits {}",
+            "  Rust: present {}, index {}, active {}, bits {}; ours: {:?}, bits {}",
             theirs.pitch_present,
             theirs.pitch_index,
             theirs.ltpf_active,
@@ -232,7 +232,7 @@ fn uncleared_encoder<W: Write>(judge: &mut EncoderJudge<W>, set: &Set) {
     judge.start(8000, TEN_MS);
     let ours = judge.frame(false, BITS, &[0; 80]);
     eprintln!(
-        "  Rust: present {}, index {}, bits {}; 01: {:?}, bits {}",
+        "  Rust: present {}, index {}, bits {}; ours: {:?}, bits {}",
         theirs.pitch_present, theirs.pitch_index, theirs.nbits_ltpf, ours.pitch, ours.nbits_ltpf
     );
 }

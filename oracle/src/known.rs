@@ -1,4 +1,4 @@
-// The differences that 01 lists, recognised exactly: what the given Rust must give where it differs.
+// The differences that docs/DIFFERENCES.md lists, recognised exactly: what the given Rust must give where it differs.
 use crate::model::decoder::{Decoder, Filter};
 use crate::model::encoder::Answered;
 

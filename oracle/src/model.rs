@@ -1,10 +1,10 @@
-// An independent reading of document 01, as plain as can be: no ring, no speed, no sharing.
+// An independent reading of docs/SCOPE.md, as plain as can be: no ring, no speed, no sharing.
 pub mod decoder;
 pub mod encoder;
 pub mod lag;
 pub mod rates;
 
-// The answer numbers of 01 that a start or a frame can give.
+// The answer numbers of the scope that a start or a frame can give.
 pub mod answer {
     pub const DONE: u8 = 0;
     pub const UNKNOWN_RATE: u8 = 1;

@@ -1,4 +1,4 @@
-// Refusal and loss mark vectors, made from 01's tables: every number, its order against the others,
+// Refusal and loss mark vectors, made from the scope's tables: every number, its order against the others,
 // and after each refused call a good one that must go on as if the refused one had not been.
 use crate::decoder_judge::DecoderJudge;
 use crate::encoder_judge::EncoderJudge;
@@ -111,7 +111,7 @@ fn good_decoder_call(set: &Set, fs_ind: usize, turn: usize, frame: usize) -> Dec
     }
 }
 
-// Makes a call and insists on its answer, which 01 alone gives.
+// Makes a call and insists on its answer, which the scope alone gives.
 fn decoder_call<W: Write>(judge: &mut DecoderJudge<W>, call: &DecoderCall, answer: u8) {
     judge.lend_slices(&call.num, &call.den);
     assert_eq!(judge.frame(call.pitch, call.nbits, &call.samples), answer);

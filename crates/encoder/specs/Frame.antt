@@ -1,4 +1,4 @@
--- The frame call of document 01: a refused frame, an judged one, and the next state.
+-- The frame call: a refused frame, one that is encoded, and the next state.
 use Prim.Native.Nat.{ℕ}
 use mathlib.Core.Bool.{Bool}
 use mathlib.Core.List.{List}
@@ -43,7 +43,7 @@ nextState e s nf l lag m = record {
   «x_6p4» = laid 114 (s .«x_6p4») (l .«len6p4») 114;
 }
 
--- an judged frame: from the signals to the search, to what is found, to the next state
+-- a frame that is encoded: from the signals to the search, to what is found, to the next state
 unfoldable pub encoded : Encoder → Lc3Config → List Float → List Float → List Float → List ℤ → ℕ → Bool → Framed
 encoded e c r k s frame nbits near =
     let l = lengthsOf (c .«n_ms») in

@@ -1,4 +1,4 @@
--- The refusals of a frame call, in document 01's order.
+-- The refusals of a frame call, in the order of docs/SCOPE.md.
 use Prim.Native.Nat.{ℕ}
 use mathlib.Core.Bool.{Bool, cond, _&&_}
 use mathlib.Core.List.{List}

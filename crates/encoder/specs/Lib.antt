@@ -1,4 +1,4 @@
--- The encoder's state, refusals and frame call, in document 01's order.
+-- The encoder's state, refusals and frame call, in the order of docs/SCOPE.md.
 pub mod State
 pub mod Judge
 pub mod Frame

@@ -1,4 +1,4 @@
--- What is found in a frame, in document 01's order.
+-- What is found in a frame, in the order of docs/SCOPE.md.
 pub mod Taps
 pub mod LagParameter
 pub mod Activation

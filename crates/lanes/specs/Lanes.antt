@@ -1,4 +1,4 @@
--- Eight sums side by side: sum j of a step takes the sample j places behind the first sum's.
+-- Eight sums side by side: sum j of a step takes the sample j places after the first sum's.
 use Prim.Native.Nat.{ℕ, zero, suc, _+_, _-_}
 use mathlib.Core.Bool.{Bool, cond, _&&_}
 use mathlib.Core.List.{List, [], _∷_}

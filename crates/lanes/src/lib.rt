@@ -123,7 +123,7 @@ fn fir_inside(c: &[f32], x: &[f32], i: usize) -> bool
     c.len() <= i + 1
 }
 
-// Adds c[k]·x[i − k] for rising k, and so for the seven samples behind i. Where x does not hold all
+// Adds c[k]·x[i − k] for rising k, and so for the seven samples after i. Where x does not hold all
 // of them, the sums are left as they are. A turn takes two terms: a loop of one term each is made by
 // the compiler into vectors of terms that are added up one by one, which is slow.
 pub fn add_fir(start: Lanes, c: &[f32], x: &[f32], i: usize) -> Lanes
@@ -234,7 +234,7 @@ fn three_sums(a: &[f32], x: &[f32], i: usize, j: usize, k: usize) -> Three
     s
 }
 
-// The sums of a[n]·x[i + n] for rising n from 0.0, and so for the seven samples behind i; and the
+// The sums of a[n]·x[i + n] for rising n from 0.0, and so for the seven samples after i; and the
 // same at j and at k. Where x does not hold all samples, all sums are 0.0.
 pub fn correlate_three(a: &[f32], x: &[f32], i: usize, j: usize, k: usize) -> Three
     ensures { λ r. ⌜ r ≡ threeCorrelated (now (a .entry)) (now (x .entry)) i j k ⌝ }

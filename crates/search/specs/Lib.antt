@@ -1,4 +1,4 @@
--- Correlations and the pitch search, in document 01's order.
+-- Correlations and the pitch search, in the order of docs/SCOPE.md.
 pub mod Lists
 pub mod Blocks
 pub mod Correlate

@@ -42,7 +42,7 @@ silent-written n x start f (suc k) quiet z =
 pub still-window : (n : ℕ) (x : List Float) (start k : ℕ) → Silent n x → start + k ≤ n → Still k (window x start)
 still-window n x start k quiet h i l = quiet .still (start + i) (omega arith)
 
-pub silent-laid : (n room : ℕ) (x : List Float) (start k : ℕ) → Silent n x → start + k ≤ n → Silent room (laid room x start k)
+pub silent-laid : (n size : ℕ) (x : List Float) (start k : ℕ) → Silent n x → start + k ≤ n → Silent size (laid size x start k)
 unfolding laid
-silent-laid n room x start k quiet h =
-    silent-written room (replicate room 0·0) 0 (window x start) k (silent-zeros room) (still-window n x start k quiet h)
+silent-laid n size x start k quiet h =
+    silent-written size (replicate size 0·0) 0 (window x start) k (silent-zeros size) (still-window n x start k quiet h)

@@ -1,4 +1,4 @@
--- The resampler's step divides 120 at every rate, so that a tap j of the definitions is document 01's k = j - 120/p, and every rate's step is usable.
+-- The resampler's step divides 120 at every rate, so that a tap j of the definitions is docs/SCOPE.md's k = j - 120/p, and every rate's step is usable.
 use Prim.Native.Nat.{ℕ, _*_, _/_, _≤_}
 use mathlib.Core.Path.{_≡_}
 use mathlib.Core.Bool.{true, _&&_}

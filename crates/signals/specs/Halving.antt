@@ -1,4 +1,4 @@
--- The five-tap halving of document 01: the signal at 6.4 kHz, with the constants and the order of 000.
+-- The five-tap halving: the signal at 6.4 kHz, with the constants and the order of the Rust's encoder file.
 use Prim.Native.Nat.{ℕ, _+_, _-_, _*_}
 use mathlib.Core.List.{List}
 use lib.Ieee.{Float}

@@ -1,4 +1,4 @@
--- The high-pass at 50 Hz of document 01, with the constants and the order of 000.
+-- The high-pass at 50 Hz, with the constants and the order of the Rust's encoder file.
 use Prim.Native.Nat.{ℕ, zero, suc}
 use mathlib.Core.List.{List}
 use lib.Ieee.{Float, neg}

@@ -1,4 +1,4 @@
--- The signals of a frame, in document 01's order.
+-- The signals of a frame, in the order of docs/SCOPE.md.
 pub mod Straight
 pub mod Resample
 pub mod Rows

@@ -1,4 +1,4 @@
--- The resampler of document 01: the frame's samples at 12.8 kHz.
+-- The resampler: the frame's samples at 12.8 kHz.
 use Prim.Native.Nat.{ℕ, zero, suc, _+_, _-_, _*_, _/_, _%_}
 use mathlib.Core.Bool.{Bool, cond, _&&_}
 use mathlib.Core.List.{List}
@@ -6,7 +6,7 @@ use lib.Dec.{ltb, eqb}
 use lib.Ieee.{Float}
 use Rattle.floats.specs.Single.{_⊕_, _⊗_, 0·0, float, at}
 
--- Tap j has document 01's k = j - 120/p, so j runs from 0 to 240/p, and p·k is p·j - 120, since p divides 120 (`step-divides`).
+-- Tap j has docs/SCOPE.md's k = j - 120/p, so j runs from 0 to 240/p, and p·k is p·j - 120, since p divides 120 (`step-divides`).
 -- It is used where h = p·j - 120 - (15n mod p) lies strictly inside ±120.
 abbrev pub used : ℕ → ℕ → ℕ → Bool
 used p n j = ltb (15 * n % p) (p * j) && ltb (p * j) (240 + 15 * n % p)

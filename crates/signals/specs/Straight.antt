@@ -10,7 +10,7 @@ use Rattle.lanes.specs.Sums.{window}
 
 -- n entries of x from start on, at the front of an array of zeros
 unfoldable pub laid : ℕ → List Float → ℕ → ℕ → List Float
-laid room x start n = written (replicate room 0·0) 0 (window x start) n
+laid size x start n = written (replicate size 0·0) 0 (window x start) n
 
 -- sample i of a frame of whole numbers, as a float
 abbrev pub sampled : List ℤ → ℕ → Float

@@ -1,4 +1,4 @@
-// The decoder of 01: refusals, gains, lag, coefficients, five cases, loss marks, the settled report.
+// The decoder of the scope: refusals, gains, lag, coefficients, five cases, loss marks, the settled report.
 use super::lag::{gain, lag};
 use super::rates::Config;
 use super::{answer, Pitch, Signal, MOST_BITS};

@@ -1,4 +1,4 @@
-// The encoder of 01: refusals, resampling, high-pass, pitch search, lag parameter, activation.
+// The encoder of the scope: refusals, resampling, high-pass, pitch search, lag parameter, activation.
 use super::lag::{gain, index};
 use super::rates::Config;
 use super::{answer, Pitch, Present, Signal, MOST_BITS};
