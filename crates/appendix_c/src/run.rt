@@ -1,11 +1,11 @@
 // A run over one file of vectors.
-use crate::cases::compare_case;
-use crate::frames::Encoding;
-use crate::frames::next_frame;
-use crate::frames::start_encoder;
-use crate::frames::with_tally;
-use crate::tally::Tally;
-use encoder::state::start;
+use appendix_cases::cases::compare_case;
+use appendix_frames::encoding::Encoding;
+use appendix_frames::encoding::begin;
+use appendix_frames::encoding::start_encoder;
+use appendix_frames::encoding::with_tally;
+use appendix_frames::frames::next_frame;
+use appendix_tally::tally::Tally;
 use vectors::read::read_bytes;
 
 // The kinds of records: a comment, the encoder's starts and frames, the decoder's cases, and the end.
@@ -57,13 +57,7 @@ fn step(fd: i32, encoding: Encoding) -> Encoding {
 // Compares the file, and prints the counts. A proved loop has to end, so it counts its turns down, from
 // a number that no file uses up.
 pub(crate) fn compare(fd: i32) {
-    let started = start(16000, 10000);
-    let encoder = started.encoder;
-    let mut run = Encoding {
-        encoder,
-        frames: 0,
-        tally: Tally::new(),
-    };
+    let mut run = begin();
     let mut turns = u64::MAX;
     while turns > 0 && run.tally.more {
         run = step(fd, run);

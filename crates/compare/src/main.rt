@@ -1,17 +1,14 @@
 // Compares an end with vector files: makes every call that a file lists, and prints where an answer, a
 // report, a sample or a pitch record differs from what the file says. The arguments name an end and
 // its files, and so on; an end that is named without a file reads standard input.
-mod decoder_calls;
-mod encoder_calls;
-mod run;
-mod set;
-mod state;
-
 use libc::STDERR_FILENO;
 use libc::STDIN_FILENO;
 use libc::STDOUT_FILENO;
-use run::compare;
-use state::End;
+
+enum End {
+    Decoder,
+    Encoder,
+}
 
 // What a word means: an end, or a file.
 enum Meant {
@@ -33,6 +30,13 @@ fn meaning(word: &[u8]) -> Meant {
         return Meant::End(End::Encoder);
     }
     Meant::File
+}
+
+fn compare(end: End, fd: i32) {
+    match end {
+        End::Decoder => decoder_vectors::run::compare(fd),
+        End::Encoder => encoder_vectors::run::compare(fd),
+    }
 }
 
 fn compare_file(end: End, path: &[u8]) {

@@ -5,7 +5,7 @@ use libc::STDERR_FILENO;
 use libc::STDOUT_FILENO;
 ghost use mathlib.Core.Path.{_≡_};
 ghost use lib.Ieee.{binary32, toBits};
-ghost use Rattle.vectors.specs.Tallies.{next, empty, startCounted, frameCounted, lossCounted, different, compared};
+ghost use Rattle.vectors.specs.Tallies.{next, empty, startCounted, frameCounted, lossCounted, different, compared, ended};
 
 // The kinds of records: the three calls, a set that is lent, and the end.
 pub const START: u8 = b'S';
@@ -21,9 +21,10 @@ pub const END: u8 = b'E';
 // The most differences that are printed; all are counted.
 const PRINTED: u64 = 1000;
 
-// The kind of the last call, how many calls there were, how many of each kind, and how many numbers
-// of their answers differed.
+// Whether there is more to compare, the kind of the last call, how many calls there were, how many of
+// each kind, and how many numbers of their answers differed.
 pub struct Tally {
+    pub more: bool,
     pub kind: u8,
     pub calls: u64,
     pub starts: u64,
@@ -49,6 +50,7 @@ impl Tally {
         ensures { λ r. ⌜ r ≡ empty ⌝ }
     {
         Tally {
+            more: true,
             kind: START,
             calls: 0,
             starts: 0,
@@ -168,13 +170,24 @@ impl Tally {
         }
     }
 
-    // Says on standard error why the rest of a file is not compared, which is a failure.
-    pub fn print_stop(self, why: &[u8]) {
+    // The tally at the end of a file.
+    pub fn end(mut self) -> Self
+        ensures { λ r. ⌜ r ≡ ended self ⌝ }
+    {
+        self.more = false;
+        self
+    }
+
+    // The same, and standard error is told why the rest of the file is not compared: a failure.
+    pub fn stop(self, why: &[u8]) -> Self
+        ensures { λ r. ⌜ r ≡ ended self ⌝ }
+    {
         io::write_all(STDERR_FILENO, b"after ");
         self.print_call(STDERR_FILENO);
         io::write_all(STDERR_FILENO, b": ");
         io::write_all(STDERR_FILENO, why);
         io::write_all(STDERR_FILENO, b"\n");
         outcome::failed();
+        self.end()
     }
 }

@@ -9,11 +9,8 @@ Inv-loop fd run₀ turns₀ run turns = Unit {0}
 abbrev μ-loop : tie.MeasureT-loop
 μ-loop fd run₀ turns₀ run turns = turns
 
-start-requires : tie.Need-start-requires Inv-loop μ-loop
-start-requires c κs = search needs
-
-new-requires : tie.Need-new-requires Inv-loop μ-loop
-new-requires c κs = search needs
+begin-requires : tie.Need-begin-requires Inv-loop μ-loop
+begin-requires c κs = search needs
 
 loop-holds : tie.Need-loop-holds Inv-loop μ-loop
 loop-holds c = search needs
@@ -42,8 +39,7 @@ compare-spec =
     (tie.spec
     Inv-loop
     μ-loop
-    start-requires
-    new-requires
+    begin-requires
     loop-holds
     step-requires
     sub-turns

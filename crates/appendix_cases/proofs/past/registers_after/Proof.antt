@@ -1,0 +1,43 @@
+-- `registers_after` puts the filter in its place.
+use lib.Ieee.{ofBits}
+use borrow.Author.Needs.{needs}
+use Rattle.appendix_cases.proofs.past.registers_after.Statement.{statement}
+use Rattle.appendix_cases.proofs.past.registers_after.Tie as tie
+
+slice-aggregate-put : tie.Need-slice-aggregate-put
+slice-aggregate-put c = search needs
+
+slice-aggregate-put-2 : tie.Need-slice-aggregate-put-2
+slice-aggregate-put-2 c = search needs
+
+put-requires : tie.Need-put-requires
+put-requires c κs = search needs
+
+slice-aggregate-put-3 : tie.Need-slice-aggregate-put-3
+slice-aggregate-put-3 c = search needs
+
+slice-aggregate-put-4 : tie.Need-slice-aggregate-put-4
+slice-aggregate-put-4 c = search needs
+
+put-requires-2 : tie.Need-put-requires-2
+put-requires-2 c κs = search needs
+
+lag-before-requires : tie.Need-lag-before-requires
+lag-before-requires c κs = search needs
+
+returns : tie.Need-returns
+unfolding ofBits
+returns c = rw (c .lag-before .ensures, c .before .before .put2 .ensures, c .before .before .before .before .before .before .put .ensures)
+
+pub registers-after-spec : {M : Type 1} → statement M
+registers-after-spec =
+    tie.close
+    (tie.spec
+    slice-aggregate-put
+    slice-aggregate-put-2
+    put-requires
+    slice-aggregate-put-3
+    slice-aggregate-put-4
+    put-requires-2
+    lag-before-requires
+    returns)

@@ -1,0 +1,2 @@
+-- What the contracts of `appendix_cases` cite.
+pub mod Past

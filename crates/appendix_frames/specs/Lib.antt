@@ -1,0 +1,3 @@
+-- What the contracts of `appendix_frames` cite.
+pub mod Delayed
+pub mod Encodings

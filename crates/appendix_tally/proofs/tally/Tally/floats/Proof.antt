@@ -1,0 +1,67 @@
+-- `floats` ends where one of the vectors does.
+use Prim.Native.Nat.{_-_, _≤_}
+use lib.ListN.{length}
+use borrow.Author.Needs.{needs}
+use Rattle.appendix_tally.proofs.tally.Tally.floats.Statement.{statement}
+use Rattle.appendix_tally.proofs.tally.Tally.floats.Tie as tie
+
+abbrev Inv-loop : tie.InvT-loop
+Inv-loop self name expected got tolerance out₀ i₀ out i = i ≤ length expected
+
+abbrev μ-loop : tie.MeasureT-loop
+μ-loop self name expected got tolerance out₀ i₀ out i = length expected - i
+
+loop-holds : tie.Need-loop-holds Inv-loop μ-loop
+loop-holds c = search needs
+
+mul-float : tie.Need-mul-float Inv-loop μ-loop
+mul-float c = search needs
+
+shared-slice-read-float : tie.Need-shared-slice-read-float Inv-loop μ-loop
+shared-slice-read-float c = search needs
+
+mul-float-2 : tie.Need-mul-float-2 Inv-loop μ-loop
+mul-float-2 c = search needs
+
+shared-slice-read-float-2 : tie.Need-shared-slice-read-float-2 Inv-loop μ-loop
+shared-slice-read-float-2 c = search needs
+
+float-requires : tie.Need-float-requires Inv-loop μ-loop
+float-requires c κs = search needs
+
+plus-requires : tie.Need-plus-requires Inv-loop μ-loop
+plus-requires c κs = search needs
+
+add-i : tie.Need-add-i Inv-loop μ-loop
+add-i c = search needs
+
+loop-less : tie.Need-loop-less Inv-loop μ-loop
+loop-less c = search needs
+
+loop-again : tie.Need-loop-again Inv-loop μ-loop
+loop-again c = search needs
+
+vector-requires : tie.Need-vector-requires Inv-loop μ-loop
+vector-requires c κs = search needs
+
+returns : tie.Need-returns Inv-loop μ-loop
+returns c = record { values = _; out = _; equal = c .vector .ensures }
+
+pub floats-spec : {M : Type 1} → statement M
+floats-spec =
+    tie.close
+    (tie.spec
+    Inv-loop
+    μ-loop
+    loop-holds
+    mul-float
+    shared-slice-read-float
+    mul-float-2
+    shared-slice-read-float-2
+    float-requires
+    plus-requires
+    add-i
+    loop-less
+    loop-again
+    vector-requires
+    returns)

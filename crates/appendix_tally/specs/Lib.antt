@@ -1,0 +1,3 @@
+-- What the contracts of `appendix_tally` cite.
+pub mod Near
+pub mod Tallies

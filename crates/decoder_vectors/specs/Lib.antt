@@ -1,0 +1,2 @@
+-- What the contracts of `decoder_vectors` cite.
+pub mod Steps

@@ -1,0 +1,2 @@
+-- What the contracts of `encoder_vectors` cite.
+pub mod Steps
