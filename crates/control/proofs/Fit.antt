@@ -24,10 +24,10 @@ use Rattle.lag.specs.declared.rescale.Lag.{Lag}
 use Rattle.lag.specs.declared.rescale.FoundLag.{FoundLag}
 use Rattle.lag.proofs.Lags.{quarters-ends, rescaled-never-falls}
 use Rattle.lag.proofs.Reach.{shortest-lag, longest-lag}
-use Rattle.filter.specs.Coefficients.{gainRow}
+use Rattle.coefficients.specs.Coefficients.{gainRow}
 use Rattle.filter.specs.Required.{Inside, Readable}
 use Rattle.filter.specs.Transition.{transitionOf, sameLag}
-use Rattle.filter.specs.declared.coefficients.Taps.{Taps}
+use Rattle.coefficients.specs.declared.Taps.{Taps}
 use Rattle.filter.specs.declared.transition.Transition.the-variants.{ActiveNoPitchChange, ActivePitchChanged}
 use Rattle.control.specs.Pitch.{isActive, noLag, lagWhere, lagFor}
 use Rattle.control.specs.State.{settledLimit, lagFits, runFits, fit, fitWith, fitConfig}

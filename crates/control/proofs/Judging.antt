@@ -17,7 +17,7 @@ use Rattle.rates.specs.declared.config.Configured.{Configured}
 use Rattle.rates.proofs.Known.{both}
 use Rattle.lag.specs.declared.rescale.Lag.{Lag}
 use Rattle.lag.specs.declared.rescale.FoundLag.{FoundLag}
-use Rattle.filter.specs.Required.{Lent}
+use Rattle.coefficients.specs.Required.{Lent}
 use Rattle.control.specs.Pitch.{lagFor}
 use Rattle.control.specs.Judge.{unless, setCounts, setFinite, planOf, lagJudged, judgedSide, rangeJudged, judged}
 use Rattle.control.specs.declared.registers.Registers.{Registers}

@@ -7,7 +7,7 @@ use native.Mathlib.Omega.{arith}
 use borrow.Author.Tests.{leb-true, leb-false, eq-eqb, ne-eqb}
 use lib.Dec.{leb, eqb}
 use Rattle.rates.specs.declared.duration.FrameDuration.{FrameDuration}
-use Rattle.filter.specs.declared.coefficients.Taps.{Taps}
+use Rattle.coefficients.specs.declared.Taps.{Taps}
 use Rattle.control.specs.State.{clearedRegisters, settledLimit, runAfter}
 use Rattle.control.specs.Next.{nextRegisters, unsettled}
 use Rattle.control.specs.declared.registers.Registers.{Registers}

@@ -13,7 +13,7 @@ use Rattle.lag.specs.Lag.{rescaled}
 use Rattle.lag.proofs.Reach.{shortest-lag, longest-lag}
 use Rattle.filter.specs.Required.{Inside}
 use Rattle.control.specs.State.{lagFits, settledLimit}
-use Rattle.filter.specs.declared.coefficients.Taps.{Taps}
+use Rattle.coefficients.specs.declared.Taps.{Taps}
 use Rattle.control.proofs.Sizes.{FromTable, sized}
 use Rattle.control.proofs.Fit.{lag-within}
 

@@ -12,8 +12,8 @@ use Rattle.rates.specs.declared.duration.FrameDuration.{FrameDuration}
 use Rattle.rates.specs.declared.config.Lc3Config.{Lc3Config}
 use Rattle.lag.specs.declared.gain.Gain.{Gain}
 use Rattle.lag.specs.declared.rescale.Lag.{Lag}
-use Rattle.filter.specs.Coefficients.{tapsOf, newTaps}
-use Rattle.filter.specs.declared.coefficients.Taps.{Taps}
+use Rattle.coefficients.specs.Coefficients.{tapsOf, newTaps}
+use Rattle.coefficients.specs.declared.Taps.{Taps}
 use Rattle.control.specs.State.{clearedRegisters, settledLimit, lagFits, runFits, fit, runAfter, settledAfter}
 use Rattle.control.specs.Next.{nextRegisters, unsettled}
 use Rattle.control.specs.declared.registers.Registers.{Registers}

@@ -1,7 +1,7 @@
 -- The registers after a frame and after a loss mark.
 use mathlib.Core.Bool.{false}
 use Rattle.rates.specs.declared.table.Rate.{Rate}
-use Rattle.filter.specs.declared.coefficients.Taps.{Taps}
+use Rattle.coefficients.specs.declared.Taps.{Taps}
 use Rattle.control.specs.State.{runAfter, settledAfter}
 use Rattle.control.specs.declared.registers.Registers.{Registers}
 use Rattle.control.specs.declared.judge.Plan.{Plan}

@@ -2,7 +2,7 @@
 use crate::fitness::settled_limit;
 use crate::judge::Plan;
 use crate::registers::Registers;
-use filter::coefficients::Taps;
+use coefficients::Taps;
 use rates::duration::FrameDuration;
 use rates::table::Rate;
 ghost use mathlib.Core.Path.{_≡_};

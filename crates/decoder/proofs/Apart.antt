@@ -6,7 +6,7 @@ use lib.Ieee.{Float}
 use Rattle.rates.specs.declared.config.Configured.{Configured}
 use Rattle.rates.specs.declared.config.Configured.the-variants.{Config, Refused}
 use Rattle.rates.specs.declared.answer.Answer.the-variants.{Done}
-use Rattle.filter.specs.declared.coefficients.Taps.{Taps}
+use Rattle.coefficients.specs.declared.Taps.{Taps}
 use Rattle.control.specs.Next.{keptTaps, nextRegisters}
 use Rattle.control.specs.declared.registers.Registers.{Registers}
 use Rattle.control.specs.declared.judge.Plan.{Plan}

@@ -11,8 +11,9 @@ use Rattle.rates.specs.declared.config.Configured.the-variants.{Config}
 use Rattle.lag.specs.Gain.{gainOf, bitsOf}
 use Rattle.lag.specs.declared.gain.Gain.{Gain}
 use Rattle.lag.specs.declared.rescale.Lag.{Lag}
-use Rattle.filter.specs.Coefficients.{gainRow, tapsOf, newTaps}
-use Rattle.filter.specs.Required.{Lent, Inside}
+use Rattle.coefficients.specs.Coefficients.{gainRow, tapsOf, newTaps}
+use Rattle.coefficients.specs.Required.{Lent}
+use Rattle.filter.specs.Required.{Inside}
 use Rattle.control.specs.Pitch.{isActive}
 use Rattle.control.specs.State.{lagFits, fitConfig}
 use Rattle.control.specs.Judge.{planOf}

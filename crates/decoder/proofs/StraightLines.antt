@@ -15,7 +15,7 @@ use Rattle.filter.specs.Blocks.{late}
 use Rattle.filter.specs.Required.{Lines}
 use Rattle.decoder.specs.Required.{Filterable}
 use Rattle.decoder.specs.Frame.{filtered}
-use Rattle.filter.specs.declared.coefficients.Taps.{Taps}
+use Rattle.coefficients.specs.declared.Taps.{Taps}
 use Rattle.filter.specs.declared.transition.Transition.{Transition}
 use Rattle.filter.specs.declared.transition.Transition.the-variants.{Inactive}
 use Rattle.filter.proofs.Late.{late-alike, outputs-inputs}

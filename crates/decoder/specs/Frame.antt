@@ -8,9 +8,9 @@ use Rattle.rates.specs.declared.answer.Answer.{Answer}
 use Rattle.rates.specs.declared.answer.Answer.the-variants.{Done}
 use Rattle.rates.specs.declared.config.Lc3Config.{Lc3Config}
 use Rattle.rates.specs.declared.config.Configured.{Configured}
-use Rattle.filter.specs.Coefficients.{newTaps}
+use Rattle.coefficients.specs.Coefficients.{newTaps}
 use Rattle.filter.specs.Transition.{outputs}
-use Rattle.filter.specs.declared.coefficients.Taps.{Taps}
+use Rattle.coefficients.specs.declared.Taps.{Taps}
 use Rattle.filter.specs.declared.transition.Transition.{Transition}
 use Rattle.control.specs.Judge.{judged}
 use Rattle.control.specs.Next.{keptTaps, nextRegisters, unsettled}

@@ -6,7 +6,7 @@ use lib.Ieee.{Float}
 use lib.ListN.{length}
 use Rattle.rates.specs.declared.config.Lc3Config.{Lc3Config}
 use Rattle.filter.specs.Required.{Readable}
-use Rattle.filter.specs.declared.coefficients.Taps.{Taps}
+use Rattle.coefficients.specs.declared.Taps.{Taps}
 use Rattle.filter.specs.declared.transition.Transition.{Transition}
 use Rattle.control.specs.Judge.{judged}
 use Rattle.control.specs.declared.registers.Registers.{Registers}

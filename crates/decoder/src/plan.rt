@@ -2,11 +2,11 @@
 use crate::frame::FramedInPlace;
 use crate::ring::next_block;
 use crate::samples::filter_samples;
+use coefficients::compute_filter_coeffs;
 use control::judge::Plan;
 use control::next::advance;
 use control::next::kept_filter;
 use control::registers::Registers;
-use filter::coefficients::compute_filter_coeffs;
 use rates::answer::Answer;
 ghost use mathlib.Core.Path.{_≡_};
 ghost use lib.ListN.{length};

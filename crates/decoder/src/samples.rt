@@ -1,7 +1,7 @@
 // A frame filtered in place, between the rings that hold its past and take it up.
 use crate::ring::recent;
 use crate::ring::straighten;
-use filter::coefficients::Taps;
+use coefficients::Taps;
 use filter::transition::Transition;
 use filter::transition::filter_frame;
 use rates::config::Lc3Config;

@@ -11,7 +11,7 @@ use Rattle.filter.specs.Fade.{grow, grown, steady, faded}
 use Rattle.filter.specs.Blocks.{late}
 use Rattle.filter.specs.Transition.{caseActivated, caseDeactivated, casePitchKept, casePitchChanged}
 use Rattle.filter.specs.Required.{Inside, Lines}
-use Rattle.filter.specs.declared.coefficients.Taps.{Taps}
+use Rattle.coefficients.specs.declared.Taps.{Taps}
 use Rattle.filter.specs.declared.fade.Direction.the-variants.{In, Out}
 use Rattle.filter.proofs.Growing.{take-grown, length-grown, before-grown, grown-all}
 use Rattle.slices.proofs.Stored.{drop-take}

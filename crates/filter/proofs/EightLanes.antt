@@ -17,7 +17,7 @@ use Rattle.slices.specs.Slices.{placed}
 use Rattle.slices.proofs.Stored.{placed-stored}
 use Rattle.filter.specs.Blocks.{sums, less, weighed, weighedIn, nextIn, Within, late}
 use Rattle.filter.specs.Required.{Inside}
-use Rattle.filter.specs.declared.coefficients.Taps.{Taps}
+use Rattle.coefficients.specs.declared.Taps.{Taps}
 use Rattle.filter.specs.declared.fade.Direction.{Direction}
 use Rattle.filter.specs.declared.fade.Run.{Run}
 use Rattle.filter.proofs.Growing.{length-outputs, length-grown, take-grow, take-made, grown-after}

@@ -1,20 +1,15 @@
--- Lists that grow at their end: one store after what is made so far, a run of outputs, and a block of them.
+-- Lists that grow at their end: a run of outputs, and a block of them.
 use Prim.Native.Nat.{ℕ, zero, suc, _+_, _-_, _≤_, _<_}
 use mathlib.Core.Path.{_≡_, sym, _∙_, ap}
 use mathlib.Core.List.{List, [], _∷_, _++_, append-nil}
 use native.Mathlib.Nat.{add-zero, add-suc, suc-add}
 use native.Mathlib.Omega.{arith}
-use lib.ListN.{length, take, drop, set, length-append, length-drop, take-append-drop}
-use lib.Seq.{set-at, drop-cons, drop-drop, drop-append-add, append-snoc, take-all, take-append-le, length-take-le}
-use lib.Ieee.{Float, nan}
+use lib.ListN.{length, take, drop, length-append, length-drop, take-append-drop}
+use lib.Seq.{drop-drop, drop-append-add, append-snoc, take-all, take-append-le, length-take-le}
+use lib.Ieee.{Float}
 use Rattle.floats.specs.Single.{at}
 use Rattle.slices.specs.Slices.{stored}
 use Rattle.filter.specs.Fade.{grow, grown}
-
--- a store at the end of what is made lengthens it by one and takes one off the rest
-pub store-next : (made l : List Float) (k : ℕ) (v : Float) → length made ≡ k → k < length l →
-    set (made ++ drop k l) k v ≡ made ++ (v ∷ []) ++ drop (suc k) l
-store-next made l k v e h = rw (drop-cons l k nan h, set-at made _ (drop (suc k) l) v k e, append-snoc)
 
 pub length-grow : (f : List Float → Float) (ys : List Float) (n : ℕ) → length (grow f ys n) ≡ length ys + n
 unfolding grow

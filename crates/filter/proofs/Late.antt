@@ -12,7 +12,7 @@ use Rattle.filter.specs.Fade.{grow, steady, faded}
 use Rattle.filter.specs.Transition.{outputs, caseActivated, caseDeactivated, casePitchKept, casePitchChanged}
 use Rattle.filter.specs.Blocks.{late}
 use Rattle.filter.specs.Required.{Inside, Readable}
-use Rattle.filter.specs.declared.coefficients.Taps.{Taps}
+use Rattle.coefficients.specs.declared.Taps.{Taps}
 use Rattle.filter.specs.declared.fade.Direction.{Direction}
 use Rattle.filter.specs.declared.fade.Direction.the-variants.{In, Out}
 use Rattle.filter.specs.declared.transition.Transition.{Transition}

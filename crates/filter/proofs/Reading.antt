@@ -7,7 +7,7 @@ use lib.ListN.{take}
 use lib.Seq.{getD-take}
 use lib.Ieee.{Float, nan}
 use Rattle.filter.specs.Filter.{denSum, F}
-use Rattle.filter.specs.declared.coefficients.Taps.{Taps}
+use Rattle.coefficients.specs.declared.Taps.{Taps}
 
 denSum-take : (start : Float) (den y : List Float) (i n k : ℕ) → i < n → denSum start den (take n y) i k ≡ denSum start den y i k
 unfolding denSum

@@ -7,7 +7,7 @@ use Rattle.floats.specs.Single.{_⊖_, _⊗_, 0·0, at}
 use Rattle.lanes.specs.Lanes.{all, firAdded, firTaken}
 use Rattle.lanes.specs.declared.Lanes.{Lanes}
 use Rattle.filter.specs.Fade.{factor, steady, faded}
-use Rattle.filter.specs.declared.coefficients.Taps.{Taps}
+use Rattle.coefficients.specs.declared.Taps.{Taps}
 use Rattle.filter.specs.declared.fade.Direction.{Direction}
 use Rattle.filter.specs.declared.fade.Run.{Run}
 

@@ -5,7 +5,7 @@ use lib.Ieee.{Float}
 use lib.ListN.{length, take, drop}
 use Rattle.floats.specs.Single.{_⊖_, _⊗_, _⊘_, float, at}
 use Rattle.filter.specs.Filter.{F}
-use Rattle.filter.specs.declared.coefficients.Taps.{Taps}
+use Rattle.coefficients.specs.declared.Taps.{Taps}
 use Rattle.filter.specs.declared.fade.Direction.{Direction}
 use Rattle.filter.specs.declared.fade.Direction.the-variants.{In, Out}
 

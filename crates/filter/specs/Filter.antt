@@ -3,7 +3,7 @@ use Prim.Native.Nat.{ℕ, zero, suc, _+_, _-_, _/_}
 use mathlib.Core.List.{List}
 use lib.Ieee.{Float}
 use Rattle.floats.specs.Single.{_⊕_, _⊖_, _⊗_, 0·0, at}
-use Rattle.filter.specs.declared.coefficients.Taps.{Taps}
+use Rattle.coefficients.specs.declared.Taps.{Taps}
 
 -- starts at 0.0 and adds num[k]·x(i − k) for rising k, over the first terms
 unfoldable pub numSum : List Float → List Float → ℕ → ℕ → Float

@@ -7,7 +7,7 @@ use lib.Ieee.{Float}
 use lib.ListN.{length, drop}
 use Rattle.lag.specs.declared.rescale.Lag.{Lag}
 use Rattle.filter.specs.Fade.{grow, steady, faded}
-use Rattle.filter.specs.declared.coefficients.Taps.{Taps}
+use Rattle.coefficients.specs.declared.Taps.{Taps}
 use Rattle.filter.specs.declared.fade.Direction.the-variants.{In, Out}
 use Rattle.filter.specs.declared.transition.Transition.{Transition}
 use Rattle.filter.specs.declared.transition.Transition.the-variants.{Inactive, Activated, Deactivated, ActiveNoPitchChange, ActivePitchChanged}

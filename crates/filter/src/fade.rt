@@ -3,7 +3,7 @@
 // block begins inside the one before it and makes some outputs again, with the same bits.
 use crate::block::filter_8;
 use crate::block::less_8;
-use crate::coefficients::Taps;
+use coefficients::Taps;
 use lanes::Lanes;
 use lanes::store;
 ghost use mathlib.Core.Path.{_≡_};

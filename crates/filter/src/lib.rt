@@ -1,5 +1,4 @@
-// The filter over straight lines: its coefficients, blocks of eight outputs, fades and the five transitions.
+// The filter over straight lines: blocks of eight outputs, fades and the five transitions.
 mod block;
-pub mod coefficients;
 mod fade;
 pub mod transition;

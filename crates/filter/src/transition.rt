@@ -1,8 +1,8 @@
 // The five transitions from one frame to the next.
-use crate::coefficients::Taps;
 use crate::fade::Direction;
 use crate::fade::Run;
 use crate::fade::filter_run;
+use coefficients::Taps;
 use lag::rescale::Lag;
 use slices::put;
 ghost use mathlib.Core.Path.{_≡_};

@@ -18,7 +18,7 @@ use Rattle.rates.specs.declared.config.Configured.the-variants.{Config, Refused
 use Rattle.rates.specs.declared.table.Rate.{Rate}
 use Rattle.lag.specs.declared.gain.Gain.{Gain}
 use Rattle.lag.specs.declared.rescale.Lag.{Lag}
-use Rattle.filter.specs.Coefficients.{gainValue, gainRow, rowOfSet, scaled, tapsOf, newTaps}
+use Rattle.coefficients.specs.Coefficients.{gainValue, gainRow, rowOfSet, scaled, tapsOf, newTaps}
 use Rattle.control.specs.State.{lagFits, fit, fitWith, fitConfig}
 use Rattle.control.specs.Judge.{planOf, judged}
 use Rattle.control.specs.Next.{nextRegisters}

@@ -15,7 +15,7 @@ use Rattle.rates.proofs.Known.{both}
 use Rattle.lag.specs.declared.gain.Gain.{Gain}
 use Rattle.lag.specs.declared.rescale.Lag.{Lag}
 use Rattle.filter.specs.Transition.{transitionOf, outputs, caseActivated, caseDeactivated, casePitchKept, casePitchChanged}
-use Rattle.filter.specs.declared.coefficients.Taps.{Taps}
+use Rattle.coefficients.specs.declared.Taps.{Taps}
 use Rattle.filter.specs.declared.transition.Transition.{Transition}
 use Rattle.filter.specs.declared.transition.Transition.the-variants.{Inactive, Activated, Deactivated, ActiveNoPitchChange, ActivePitchChanged}
 use Rattle.filter.proofs.Growing.{length-grow}

@@ -11,7 +11,7 @@ use lib.Seq.{drop-drop}
 use Rattle.rates.specs.declared.config.Lc3Config.{Lc3Config}
 use Rattle.lag.specs.declared.gain.Gain.{Gain}
 use Rattle.lag.specs.declared.rescale.Lag.{Lag}
-use Rattle.filter.specs.Coefficients.{tapsOf, newTaps}
+use Rattle.coefficients.specs.Coefficients.{tapsOf, newTaps}
 use Rattle.filter.specs.Required.{Inside}
 use Rattle.filter.proofs.Alike.{Alike, alike-later, append-alike, outputs-alike}
 use Rattle.control.specs.State.{lagFits}

@@ -9,7 +9,7 @@ use Rattle.rates.specs.declared.table.Rate.{Rate}
 use Rattle.rates.specs.declared.config.Lc3Config.{Lc3Config}
 use Rattle.lag.specs.declared.gain.Gain.the-variants.{Off}
 use Rattle.lag.specs.declared.rescale.Lag.{Lag}
-use Rattle.filter.specs.Coefficients.{newTaps}
+use Rattle.coefficients.specs.Coefficients.{newTaps}
 use Rattle.filter.specs.Transition.{transitionOf}
 use Rattle.control.specs.Pitch.{isActive, noLag}
 use Rattle.control.specs.State.{lagFits}

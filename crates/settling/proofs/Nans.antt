@@ -12,10 +12,10 @@ use lib.ListN.{length, take, drop, replicate, length-map, length-drop, length-re
 use lib.Seq.{length-take-le, getD-append-seam, getD-append-add, getD-take, getD-drop}
 use lib.Ieee.{Float, nan, inf, fin, add, sub, mul, neg, round, sum}
 use Rattle.floats.specs.Single.{_⊕_, _⊖_, _⊗_, 0·0, at}
-use Rattle.filter.specs.Coefficients.{rowOfSet, scaled}
+use Rattle.coefficients.specs.Coefficients.{rowOfSet, scaled}
 use Rattle.filter.specs.Filter.{numSum, denSum, F}
 use Rattle.filter.specs.Fade.{faded, grow}
-use Rattle.filter.specs.declared.coefficients.Taps.{Taps}
+use Rattle.coefficients.specs.declared.Taps.{Taps}
 use Rattle.filter.specs.declared.fade.Direction.{Direction}
 use Rattle.filter.proofs.Growing.{length-grow}
 

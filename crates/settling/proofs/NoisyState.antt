@@ -17,10 +17,10 @@ use Rattle.rates.specs.declared.config.Configured.the-variants.{Config}
 use Rattle.lag.specs.Lag.{rescaled}
 use Rattle.lag.specs.declared.gain.Gain.the-variants.{Off}
 use Rattle.lag.proofs.Lags.{quarters-ends}
-use Rattle.filter.specs.Coefficients.{tapsOf, newTaps}
+use Rattle.coefficients.specs.Coefficients.{tapsOf, newTaps}
 use Rattle.filter.specs.Fade.{faded, grow}
 use Rattle.filter.specs.Transition.{transitionOf, outputs, caseDeactivated}
-use Rattle.filter.specs.declared.coefficients.Taps.{Taps}
+use Rattle.coefficients.specs.declared.Taps.{Taps}
 use Rattle.filter.specs.declared.fade.Direction.the-variants.{In, Out}
 use Rattle.filter.proofs.Growing.{length-grow}
 use Rattle.control.specs.State.{clearedRegisters}

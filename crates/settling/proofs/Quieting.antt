@@ -9,10 +9,10 @@ use lib.Ieee.{Float}
 use lib.ListN.{length, drop, length-append}
 use lib.Seq.{drop-at, drop-drop}
 use Rattle.rates.specs.declared.config.Lc3Config.{Lc3Config}
-use Rattle.filter.specs.Coefficients.{noTaps, newTaps}
+use Rattle.coefficients.specs.Coefficients.{noTaps, newTaps}
 use Rattle.filter.specs.Fade.{grow, faded}
 use Rattle.filter.specs.Transition.{transitionOf, outputs, caseDeactivated}
-use Rattle.filter.specs.declared.coefficients.Taps.{Taps}
+use Rattle.coefficients.specs.declared.Taps.{Taps}
 use Rattle.filter.specs.declared.fade.Direction.the-variants.{Out}
 use Rattle.filter.specs.declared.transition.Transition.the-variants.{Inactive, Deactivated}
 use Rattle.filter.proofs.Alike.{Alike, alike-later, append-alike}

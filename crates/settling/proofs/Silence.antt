@@ -17,10 +17,10 @@ use Rattle.lag.specs.declared.pitch.PitchRecord.{PitchRecord}
 use Rattle.lag.specs.declared.pitch.PitchRecord.the-variants.{Absent, Present}
 use Rattle.lag.specs.declared.rescale.Lag.{Lag}
 use Rattle.lag.specs.declared.rescale.FoundLag.{FoundLag}
-use Rattle.filter.specs.Coefficients.{newTaps}
+use Rattle.coefficients.specs.Coefficients.{newTaps}
 use Rattle.filter.specs.Fade.{faded, grow}
 use Rattle.filter.specs.Transition.{transitionOf, outputs, caseActivated}
-use Rattle.filter.specs.declared.coefficients.Taps.{Taps}
+use Rattle.coefficients.specs.declared.Taps.{Taps}
 use Rattle.filter.specs.declared.fade.Direction.the-variants.{In}
 use Rattle.filter.proofs.Growing.{length-grow}
 use Rattle.control.specs.Pitch.{noLag, lagFor}

@@ -15,7 +15,7 @@ use Rattle.rates.specs.declared.config.Configured.the-variants.{Config}
 use Rattle.lag.specs.Gain.{gainOf, bitsOf, hundredths}
 use Rattle.lag.specs.declared.gain.Gain.{Gain}
 use Rattle.lag.specs.declared.gain.Gain.the-variants.{Off, On}
-use Rattle.filter.specs.Coefficients.{gainValue, tapsOf, newTaps}
+use Rattle.coefficients.specs.Coefficients.{gainValue, tapsOf, newTaps}
 use Rattle.filter.specs.Fade.{factor, faded}
 use Rattle.filter.specs.Transition.{outputs}
 use Rattle.filter.specs.declared.fade.Direction.the-variants.{In}

@@ -6,7 +6,7 @@ use lib.ListN.{length}
 use lib.Seq.{length-take-le}
 use Rattle.filter.specs.Fade.{grown}
 use Rattle.filter.specs.Blocks.{nextIn, late}
-use Rattle.filter.specs.declared.coefficients.Taps.{Taps}
+use Rattle.coefficients.specs.declared.Taps.{Taps}
 use Rattle.filter.proofs.Growing.{grown-none}
 use Rattle.filter.proofs.EightLanes.{Usable, usedNum, usedDen, nearest, run-made, within-less}
 use borrow.Author.Needs.{needs}

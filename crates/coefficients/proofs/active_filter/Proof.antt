@@ -2,10 +2,10 @@
 use native.Mathlib.Omega.{arith}
 use lib.ListN.{length-take}
 use lib.Ieee.{ofBits, round}
-use Rattle.filter.specs.Coefficients.{tapsOf}
+use Rattle.coefficients.specs.Coefficients.{tapsOf}
 use borrow.Author.Needs.{needs}
-use Rattle.filter.proofs.coefficients.active_filter.Statement.{statement}
-use Rattle.filter.proofs.coefficients.active_filter.Tie as tie
+use Rattle.coefficients.proofs.active_filter.Statement.{statement}
+use Rattle.coefficients.proofs.active_filter.Tie as tie
 
 gain-value-requires : tie.Need-gain-value-requires
 gain-value-requires c κs = search needs

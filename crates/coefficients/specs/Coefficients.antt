@@ -9,7 +9,7 @@ use Rattle.lag.specs.declared.gain.Gain.{Gain}
 use Rattle.lag.specs.declared.gain.Gain.the-variants.{Off, On}
 use Rattle.lag.specs.declared.rescale.Lag.{Lag}
 use Rattle.floats.specs.Single.{_⊗_, 0·0, decimal}
-use Rattle.filter.specs.declared.coefficients.Taps.{Taps}
+use Rattle.coefficients.specs.declared.Taps.{Taps}
 
 -- off is computed as gain 0.0 on row 0
 abbrev pub gainValue : Gain → Float

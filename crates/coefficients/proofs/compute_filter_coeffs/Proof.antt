@@ -1,8 +1,8 @@
 -- `compute_filter_coeffs` goes by whether the frame is active.
-use Rattle.filter.specs.Coefficients.{newTaps}
+use Rattle.coefficients.specs.Coefficients.{newTaps}
 use borrow.Author.Needs.{needs}
-use Rattle.filter.proofs.coefficients.compute_filter_coeffs.Statement.{statement}
-use Rattle.filter.proofs.coefficients.compute_filter_coeffs.Tie as tie
+use Rattle.coefficients.proofs.compute_filter_coeffs.Statement.{statement}
+use Rattle.coefficients.proofs.compute_filter_coeffs.Tie as tie
 
 returns : tie.Need-returns
 unfolding newTaps

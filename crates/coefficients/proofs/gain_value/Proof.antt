@@ -1,8 +1,8 @@
 -- `gain_value` goes by the gain's two cases.
 use lib.Ieee.{ofBits}
 use borrow.Author.Needs.{needs}
-use Rattle.filter.proofs.coefficients.gain_value.Statement.{statement}
-use Rattle.filter.proofs.coefficients.gain_value.Tie as tie
+use Rattle.coefficients.proofs.gain_value.Statement.{statement}
+use Rattle.coefficients.proofs.gain_value.Tie as tie
 
 enum-told : tie.Need-enum-told
 enum-told c = search needs

@@ -1,17 +1,21 @@
 -- `scale_row`: the row so far, scaled, stands in front of the entries not yet replaced.
-use Prim.Native.Nat.{ℕ, _+_, _-_, _≤_, _<_}
+use Prim.Native.Nat.{ℕ, suc, _+_, _-_, _≤_, _<_}
 use mathlib.Core.Path.{_≡_, _∙_}
-use mathlib.Core.List.{List, _++_, map, map-append}
+use mathlib.Core.List.{List, [], _∷_, _++_, map, map-append}
 use native.Mathlib.Numerals.{add-one}
 use native.Mathlib.Omega.{arith}
 use borrow.Author.Needs.{needs}
 use lib.ListN.{length, take, drop, set, getD, length-set, length-map}
-use lib.Seq.{take-suc, take-length, length-take-le}
+use lib.Seq.{set-at, drop-cons, append-snoc, take-suc, take-length, length-take-le}
 use lib.Ieee.{Float, nan}
 use Rattle.floats.specs.Single.{_⊗_}
-use Rattle.filter.proofs.Growing.{store-next}
-use Rattle.filter.proofs.coefficients.scale_row.Statement.{statement}
-use Rattle.filter.proofs.coefficients.scale_row.Tie as tie
+use Rattle.coefficients.proofs.scale_row.Statement.{statement}
+use Rattle.coefficients.proofs.scale_row.Tie as tie
+
+-- a store at the end of what is made lengthens it by one and takes one off the rest
+store-next : (made l : List Float) (k : ℕ) (v : Float) → length made ≡ k → k < length l →
+    set (made ++ drop k l) k v ≡ made ++ (v ∷ []) ++ drop (suc k) l
+store-next made l k v e h = rw (drop-cons l k nan h, set-at made _ (drop (suc k) l) v k e, append-snoc)
 
 -- the first k entries scaled, and the rest as it was
 scaled-to : Float → List Float → List Float → ℕ → List Float

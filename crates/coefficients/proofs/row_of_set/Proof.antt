@@ -4,8 +4,8 @@ use mathlib.Core.Path.{_≡_}
 use native.Mathlib.Nat.{mul-le-mul-right}
 use native.Mathlib.Omega.{arith}
 use borrow.Author.Needs.{needs}
-use Rattle.filter.proofs.coefficients.row_of_set.Statement.{statement}
-use Rattle.filter.proofs.coefficients.row_of_set.Tie as tie
+use Rattle.coefficients.proofs.row_of_set.Statement.{statement}
+use Rattle.coefficients.proofs.row_of_set.Tie as tie
 
 -- the row starts at most three rows in
 inside : (c : tie.Start) → c .args .r * c .args .entries ≤ 3 * c .args .entries

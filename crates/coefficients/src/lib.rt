@@ -7,8 +7,8 @@ ghost use Prim.Native.Nat.{_*_, _≤_};
 ghost use mathlib.Core.List.{map, _++_};
 ghost use lib.ListN.{length, drop};
 ghost use Rattle.floats.specs.Single.{_⊗_};
-ghost use Rattle.filter.specs.Coefficients.{gainValue, gainRow, rowOfSet, tapsOf, noTaps, newTaps};
-ghost use Rattle.filter.specs.Required.{Lent};
+ghost use Rattle.coefficients.specs.Coefficients.{gainValue, gainRow, rowOfSet, tapsOf, noTaps, newTaps};
+ghost use Rattle.coefficients.specs.Required.{Lent};
 
 // A filter: the order l_den, the coefficients, of which l_den − 1 and l_den + 1 are used and the
 // others are 0.0, and the lag.

@@ -1,8 +1,8 @@
 -- `no_filter`: each constant 0.0 is the definition's.
 use lib.Ieee.{ofBits}
 use mathlib.Core.Path.{refl}
-use Rattle.filter.proofs.coefficients.no_filter.Statement.{statement}
-use Rattle.filter.proofs.coefficients.no_filter.Tie as tie
+use Rattle.coefficients.proofs.no_filter.Statement.{statement}
+use Rattle.coefficients.proofs.no_filter.Tie as tie
 
 returns : tie.Need-returns
 unfolding ofBits
