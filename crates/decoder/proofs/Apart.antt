@@ -10,9 +10,10 @@ use Rattle.coefficients.specs.declared.Taps.{Taps}
 use Rattle.control.specs.Next.{keptTaps, nextRegisters}
 use Rattle.control.specs.declared.registers.Registers.{Registers}
 use Rattle.control.specs.declared.judge.Plan.{Plan}
-use Rattle.decoder.specs.Ring.{nextBlock}
+use Rattle.rings.specs.Ring.{nextBlock}
 use Rattle.decoder.specs.State.{fitRing}
-use Rattle.decoder.specs.Frame.{filteredRings, tapsFor, accepted, done, lostWith, lostFrom}
+use Rattle.rings.specs.Samples.{filteredRings}
+use Rattle.decoder.specs.Frame.{tapsFor, accepted, done, lostWith, lostFrom}
 use Rattle.decoder.specs.InPlace.{joined, allApart, lostInPlace}
 use Rattle.decoder.specs.declared.frame.Framed.{Framed}
 use Rattle.decoder.specs.declared.frame.FramedInPlace.{FramedInPlace}

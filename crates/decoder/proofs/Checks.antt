@@ -26,7 +26,8 @@ use Rattle.control.proofs.Fit.{Fits, fits, inside-of-lag, lag-for-fits, lag-for
 use Rattle.control.proofs.Judging.{Passed, accepted-plan, lent}
 use Rattle.decoder.specs.State.{blockFits, fitRing}
 use Rattle.decoder.specs.Frame.{tapsFor}
-use Rattle.decoder.specs.Required.{Filterable, Judged}
+use Rattle.rings.specs.Required.{Filterable}
+use Rattle.decoder.specs.Required.{Judged}
 use Rattle.decoder.proofs.RingFits.{ring-fits, block-inside, newest-fits}
 
 new-inside : (c : Lc3Config) → FromTable c → (active : Bool) (gain : Gain) (lag : Lag) (nums dens : List Float) →

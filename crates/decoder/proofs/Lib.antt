@@ -1,6 +1,4 @@
 -- Laws of the decoder's definitions, for its proofs and for what is built above it.
-pub mod StraightLines
-pub mod MovingPast
 pub mod RingFits
 pub mod Checks
 pub mod Apart

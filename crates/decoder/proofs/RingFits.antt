@@ -17,7 +17,7 @@ use Rattle.rates.proofs.Known.{both}
 use Rattle.control.specs.State.{fitConfig}
 use Rattle.control.specs.declared.registers.Registers.{Registers}
 use Rattle.control.proofs.Sizes.{FromTable, sized}
-use Rattle.decoder.specs.Ring.{nextBlock, newestEnd}
+use Rattle.rings.specs.Ring.{nextBlock, newestEnd}
 use Rattle.decoder.specs.State.{blockFits, withBlock, fitRing}
 
 -- the block that the next frame is stored into lies inside the history

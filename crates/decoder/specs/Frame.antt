@@ -1,37 +1,23 @@
 -- A frame and a loss mark: what each gives back, refused or not.
-use Prim.Native.Nat.{ℕ}
-use mathlib.Core.List.{List, _++_}
+use mathlib.Core.List.{List}
 use lib.Ieee.{Float}
-use lib.ListN.{drop}
 use Rattle.slices.specs.Slices.{stored}
 use Rattle.rates.specs.declared.answer.Answer.{Answer}
 use Rattle.rates.specs.declared.answer.Answer.the-variants.{Done}
-use Rattle.rates.specs.declared.config.Lc3Config.{Lc3Config}
 use Rattle.rates.specs.declared.config.Configured.{Configured}
 use Rattle.coefficients.specs.Coefficients.{newTaps}
-use Rattle.filter.specs.Transition.{outputs}
 use Rattle.coefficients.specs.declared.Taps.{Taps}
-use Rattle.filter.specs.declared.transition.Transition.{Transition}
+use Rattle.rings.specs.Ring.{nextBlock}
+use Rattle.rings.specs.Samples.{filtered}
 use Rattle.control.specs.Judge.{judged}
 use Rattle.control.specs.Next.{keptTaps, nextRegisters, unsettled}
 use Rattle.control.specs.declared.judge.SideInfo.{SideInfo}
 use Rattle.control.specs.declared.judge.Plan.{Plan}
 use Rattle.control.specs.declared.judge.Verdict.{Verdict}
 use Rattle.control.specs.declared.judge.Verdict.the-variants.{Refused, Accepted}
-use Rattle.decoder.specs.Ring.{straight, nextBlock}
 use Rattle.decoder.specs.State.{fitDecoder}
 use Rattle.decoder.specs.declared.state.Decoder.{Decoder}
 use Rattle.decoder.specs.declared.frame.Framed.{Framed}
-
--- a frame's outputs: those of its case, after the straight pasts of the two rings
-unfoldable pub filtered : Transition → Taps → Taps → Lc3Config → ℕ → List Float → List Float → List Float → List Float
-filtered t old new c start xs ys frame =
-    drop (c .history) (outputs t old new (c .fs .fade) (straight xs (c .history) start ++ frame) (straight ys (c .history) start))
-
--- both rings with the frame's inputs and outputs stored, and the outputs
-abbrev pub filteredRings : Transition → Taps → Taps → Lc3Config → ℕ → List Float → List Float → List Float → List Float × List Float × List Float
-filteredRings t old new c start xs ys frame =
-    (stored xs start frame, stored ys start (filtered t old new c start xs ys frame), filtered t old new c start xs ys frame)
 
 -- the filter of a frame with this plan
 abbrev pub tapsFor : Plan → List Float → List Float → Taps

@@ -2,6 +2,4 @@
 mod fitness;
 pub mod frame;
 mod plan;
-mod ring;
-mod samples;
 pub mod state;

@@ -1,18 +1,28 @@
 // A frame whose verdict is a plan: its samples filtered and stored, and the registers moved on.
 use crate::frame::FramedInPlace;
-use crate::ring::next_block;
-use crate::samples::filter_samples;
 use coefficients::compute_filter_coeffs;
 use control::judge::Plan;
 use control::next::advance;
 use control::next::kept_filter;
 use control::registers::Registers;
 use rates::answer::Answer;
+use rings::samples::filter_samples;
 ghost use mathlib.Core.Path.{_≡_};
+ghost use Prim.Native.Nat.{_+_, _≤_};
 ghost use lib.ListN.{length};
+ghost use Rattle.rings.specs.Ring.{nextBlock};
 ghost use Rattle.decoder.specs.Frame.{accepted, done};
 ghost use Rattle.decoder.specs.InPlace.{joined, allApart};
 ghost use Rattle.decoder.specs.Required.{Judged};
+
+// Where the next block starts: after this one, or at the front again.
+fn next_block(history: usize, nf: usize, block_start_index: usize) -> usize
+    requires { ⌜ «block_start_index» + nf ≤ 1440 ⌝ }
+    ensures { λ r. ⌜ r ≡ nextBlock history nf «block_start_index» ⌝ }
+{
+    let next = block_start_index + nf;
+    if next == history { 0 } else { next }
+}
 
 // Carries a plan out on lent rings.
 pub(crate) fn carry_out(

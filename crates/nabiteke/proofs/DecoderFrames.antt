@@ -27,7 +27,7 @@ use Rattle.control.specs.declared.judge.Plan.{Plan}
 use Rattle.control.proofs.Fit.{inside-of-lag}
 use Rattle.control.proofs.Judging as judging
 use Rattle.control.proofs.Judging.{declined, passed, verdict}
-use Rattle.decoder.specs.Ring.{nextBlock}
+use Rattle.rings.specs.Ring.{nextBlock}
 use Rattle.decoder.specs.State.{blockFits, withBlock, fitRing, fitDecoder}
 use Rattle.decoder.specs.Frame.{framedAs, done, tapsFor, accepted, framedWith, framed}
 use Rattle.decoder.specs.Required.{Judged}

@@ -24,11 +24,12 @@ use Rattle.control.specs.Next.{nextRegisters}
 use Rattle.control.specs.declared.registers.Registers.{Registers}
 use Rattle.control.specs.declared.judge.Plan.{Plan}
 use Rattle.control.proofs.StaysFit.{next-lag, stays-fit}
-use Rattle.decoder.specs.Ring.{straight, nextBlock}
+use Rattle.rings.specs.Ring.{straight, nextBlock}
 use Rattle.decoder.specs.State.{blockFits}
-use Rattle.decoder.specs.Frame.{filtered, tapsFor, accepted}
+use Rattle.rings.specs.Samples.{filtered}
+use Rattle.decoder.specs.Frame.{tapsFor, accepted}
 use Rattle.decoder.specs.declared.state.Decoder.{Decoder}
-use Rattle.decoder.proofs.MovingPast.{past-moves-along}
+use Rattle.rings.proofs.MovingPast.{past-moves-along}
 use Rattle.decoder.proofs.RingFits.{next-block}
 use Rattle.settling.specs.Calls.{FitState}
 use Rattle.settling.proofs.Held.{held, past-x, past-y}

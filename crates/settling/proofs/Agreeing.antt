@@ -20,7 +20,8 @@ use Rattle.control.proofs.Sizes.{FromTable}
 use Rattle.control.proofs.Fit.{readable}
 use Rattle.control.proofs.Judging.{declined, passed}
 use Rattle.control.proofs.Reaching.{reach, inside-reach, reach-within}
-use Rattle.decoder.specs.Frame.{tapsFor, filtered, accepted}
+use Rattle.rings.specs.Samples.{filtered}
+use Rattle.decoder.specs.Frame.{tapsFor, accepted}
 use Rattle.decoder.specs.declared.state.Decoder.{Decoder}
 use Rattle.settling.specs.Calls.{Given, frame, after, afterAll, replyOf, reply, replies, FitState}
 use Rattle.settling.proofs.Held.{held, past-x, past-y}

@@ -16,10 +16,10 @@ use Rattle.rates.specs.declared.config.Configured.the-variants.{Config}
 use Rattle.control.specs.State.{settledLimit}
 use Rattle.control.proofs.Sizes.{FromTable, from-table, Sized, sized}
 use Rattle.control.proofs.Fit.{Fits, fits}
-use Rattle.decoder.specs.Ring.{straight}
+use Rattle.rings.specs.Ring.{straight}
 use Rattle.decoder.specs.State.{blockFits}
 use Rattle.decoder.specs.declared.state.Decoder.{Decoder}
-use Rattle.decoder.proofs.StraightLines.{length-straight}
+use Rattle.rings.proofs.StraightLines.{length-straight}
 use Rattle.decoder.proofs.RingFits.{ring-fits, block-inside}
 use Rattle.settling.specs.Calls.{limitOf, FitState}
 

@@ -29,8 +29,9 @@ use Rattle.control.proofs.Sizes.{from-table, sized}
 use Rattle.control.proofs.StaysFit.{stays-fit}
 use Rattle.control.proofs.Reaching.{reach-within}
 use Rattle.control.proofs.LeastLimit.{two-frames-short}
-use Rattle.decoder.specs.Ring.{straight}
-use Rattle.decoder.specs.Frame.{filtered, accepted}
+use Rattle.rings.specs.Ring.{straight}
+use Rattle.rings.specs.Samples.{filtered}
+use Rattle.decoder.specs.Frame.{accepted}
 use Rattle.decoder.specs.declared.state.Decoder.{Decoder}
 use Rattle.decoder.proofs.RingFits.{first-block}
 use Rattle.settling.specs.Calls.{frame, FitState}

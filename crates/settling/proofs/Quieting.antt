@@ -22,7 +22,8 @@ use Rattle.control.specs.Next.{keptTaps, nextRegisters}
 use Rattle.control.proofs.Sizes.{sized}
 use Rattle.control.proofs.Fit.{limit-some}
 use Rattle.control.proofs.Reaching.{reach, reach-within, limit-enough}
-use Rattle.decoder.specs.Frame.{filtered, accepted}
+use Rattle.rings.specs.Samples.{filtered}
+use Rattle.decoder.specs.Frame.{accepted}
 use Rattle.decoder.specs.declared.state.Decoder.{Decoder}
 use Rattle.settling.specs.Calls.{FitState}
 use Rattle.settling.proofs.Held.{held, past-x, past-y}

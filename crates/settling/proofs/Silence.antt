@@ -27,7 +27,8 @@ use Rattle.control.specs.Pitch.{noLag, lagFor}
 use Rattle.control.specs.State.{lagFits}
 use Rattle.control.specs.Judge.{planOf, judgedSide, judged}
 use Rattle.control.proofs.Fit.{lag-for-fits}
-use Rattle.decoder.specs.Frame.{filtered, done, accepted, framed}
+use Rattle.rings.specs.Samples.{filtered}
+use Rattle.decoder.specs.Frame.{done, accepted, framed}
 use Rattle.decoder.specs.declared.state.Decoder.{Decoder}
 use Rattle.decoder.specs.declared.frame.Framed.{Framed}
 use Rattle.settling.specs.Calls.{Given, frame, framedBy, after, reply, quiet, event, FitState}

@@ -23,7 +23,7 @@ use Rattle.control.specs.State.{clearedRegisters}
 use Rattle.control.proofs.Sizes.{FromTable, from-table, sized}
 use Rattle.control.proofs.Fit.{gain-row}
 use Rattle.control.proofs.Reaching.{inside-reach}
-use Rattle.decoder.specs.Ring.{straight}
+use Rattle.rings.specs.Ring.{straight}
 use Rattle.decoder.specs.State.{cleared}
 use Rattle.decoder.specs.declared.state.Decoder.{Decoder}
 use Rattle.settling.specs.Calls.{FitState}

@@ -9,12 +9,12 @@ use lib.Ieee.{Float}
 use Rattle.rates.specs.declared.config.Lc3Config.{Lc3Config}
 use Rattle.slices.specs.Slices.{stored, placed}
 use Rattle.slices.proofs.Stored.{placed-stored}
-use Rattle.decoder.specs.Ring.{straight}
+use Rattle.rings.specs.Ring.{straight}
 use Rattle.filter.specs.Transition.{outputs}
 use Rattle.filter.specs.Blocks.{late}
 use Rattle.filter.specs.Required.{Lines}
-use Rattle.decoder.specs.Required.{Filterable}
-use Rattle.decoder.specs.Frame.{filtered}
+use Rattle.rings.specs.Required.{Filterable}
+use Rattle.rings.specs.Samples.{filtered}
 use Rattle.coefficients.specs.declared.Taps.{Taps}
 use Rattle.filter.specs.declared.transition.Transition.{Transition}
 use Rattle.filter.specs.declared.transition.Transition.the-variants.{Inactive}

@@ -9,8 +9,8 @@ use slices::put;
 ghost use mathlib.Core.Path.{_≡_};
 ghost use Prim.Native.Nat.{_+_};
 ghost use lib.ListN.{length};
-ghost use Rattle.decoder.specs.Frame.{filteredRings};
-ghost use Rattle.decoder.specs.Required.{Filterable};
+ghost use Rattle.rings.specs.Samples.{filteredRings};
+ghost use Rattle.rings.specs.Required.{Filterable};
 
 // Filters on two lines, which it fills: x[-16..-1] are the last inputs, as far back as a numerator reads and some
 // more, y[-history..-1] all past outputs, and x[0..] and y[0..] the frame.
@@ -41,7 +41,7 @@ fn filter_on(
 // Filters a frame after the pasts that two rings hold, and stores its inputs and outputs into them.
 // The first case leaves the samples as they are, and needs no line. To clear the long lines would
 // cost the low rates a third of a frame's time, so they have shorter ones.
-pub(crate) fn filter_samples(
+pub fn filter_samples(
     transition: Transition,
     old: Taps,
     new: Taps,

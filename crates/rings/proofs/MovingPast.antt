@@ -11,9 +11,9 @@ use lib.ListN.{length, take, drop, length-append, length-take, length-drop}
 use lib.Seq.{take-at, drop-at, take-add, drop-drop, drop-length, drop-append-le, drop-append-add, length-take-le}
 use lib.Ieee.{Float}
 use Rattle.slices.specs.Slices.{stored, placed}
-use Rattle.decoder.specs.Ring.{straight, nextBlock, newestEnd}
+use Rattle.rings.specs.Ring.{straight, nextBlock, newestEnd}
 use Rattle.slices.proofs.Stored.{placed-stored, length-placed, take-stored, drop-stored, stored-last, drop-take}
-use Rattle.decoder.proofs.StraightLines.{length-straight}
+use Rattle.rings.proofs.StraightLines.{length-straight}
 
 -- the line that `straighten` fills, part by part, from the ring and the frame
 pub straightened : (line line₁ line₂ line₃ ring frame : List Float) (history start : ℕ) →

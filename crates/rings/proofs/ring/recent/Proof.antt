@@ -2,10 +2,10 @@
 use Prim.Native.Nat.{_-_}
 use mathlib.Core.Path.{_≡_}
 use native.Mathlib.Omega.{arith}
-use Rattle.decoder.proofs.MovingPast.{newest-inside, recently}
+use Rattle.rings.proofs.MovingPast.{newest-inside, recently}
 use borrow.Author.Needs.{needs}
-use Rattle.decoder.proofs.ring.recent.Statement.{statement}
-use Rattle.decoder.proofs.ring.recent.Tie as tie
+use Rattle.rings.proofs.ring.recent.Statement.{statement}
+use Rattle.rings.proofs.ring.recent.Tie as tie
 
 newest-end-requires : tie.Need-newest-end-requires
 newest-end-requires c κs = search needs

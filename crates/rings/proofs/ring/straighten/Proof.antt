@@ -2,10 +2,10 @@
 use mathlib.Core.Path.{sym}
 use native.Mathlib.Omega.{arith}
 use lib.Seq.{length-take-le}
-use Rattle.decoder.proofs.MovingPast.{straightened}
+use Rattle.rings.proofs.MovingPast.{straightened}
 use borrow.Author.Needs.{needs}
-use Rattle.decoder.proofs.ring.straighten.Statement.{statement}
-use Rattle.decoder.proofs.ring.straighten.Tie as tie
+use Rattle.rings.proofs.ring.straighten.Statement.{statement}
+use Rattle.rings.proofs.ring.straighten.Tie as tie
 
 mul-put : tie.Need-mul-put
 mul-put c = search needs

@@ -6,10 +6,10 @@ use lib.Ieee.{Float}
 use lib.ListN.{length, take, replicate, length-replicate}
 use lib.Seq.{length-take-le}
 use Rattle.slices.proofs.Stored.{placed-stored}
-use Rattle.decoder.proofs.StraightLines.{untouched}
+use Rattle.rings.proofs.StraightLines.{untouched}
 use borrow.Author.Needs.{needs}
-use Rattle.decoder.proofs.samples.filter_samples.Statement.{statement}
-use Rattle.decoder.proofs.samples.filter_samples.Tie as tie
+use Rattle.rings.proofs.samples.filter_samples.Statement.{statement}
+use Rattle.rings.proofs.samples.filter_samples.Tie as tie
 
 -- the first part of a cleared line
 part-long : (n m : ℕ) (v : Float) → n ≤ m → n ≡ length (take n (replicate m v))

@@ -4,7 +4,7 @@ ghost use mathlib.Core.Path.{_≡_};
 ghost use mathlib.Core.List.{_++_};
 ghost use Prim.Native.Nat.{_+_, _-_, _≤_};
 ghost use lib.ListN.{length, drop};
-ghost use Rattle.decoder.specs.Ring.{straight, nextBlock, newestEnd};
+ghost use Rattle.rings.specs.Ring.{straight, newestEnd};
 
 // The past, oldest sample first, with a frame after it.
 pub(crate) fn straighten(
@@ -51,13 +51,4 @@ pub(crate) fn recent(
     let end = newest_end(history, block_start_index);
     put(line, 0, &ring[end - 16..end]);
     put(line, 16, frame);
-}
-
-// Where the next block starts: after this one, or at the front again.
-pub(crate) fn next_block(history: usize, nf: usize, block_start_index: usize) -> usize
-    requires { ⌜ «block_start_index» + nf ≤ 1440 ⌝ }
-    ensures { λ r. ⌜ r ≡ nextBlock history nf «block_start_index» ⌝ }
-{
-    let next = block_start_index + nf;
-    if next == history { 0 } else { next }
 }

@@ -1,7 +1,7 @@
 -- `newest_end` follows the definition's test.
 use borrow.Author.Tests.{eq-eqb, ne-eqb}
-use Rattle.decoder.proofs.ring.newest_end.Statement.{statement}
-use Rattle.decoder.proofs.ring.newest_end.Tie as tie
+use Rattle.rings.proofs.ring.newest_end.Statement.{statement}
+use Rattle.rings.proofs.ring.newest_end.Tie as tie
 
 returns : tie.Need-returns
 returns c = rw (eq-eqb _ _ (c .if1 .taken))

@@ -1,8 +1,8 @@
 -- `next_block` follows the definition's test.
 use borrow.Author.Tests.{eq-eqb, ne-eqb}
 use borrow.Author.Needs.{needs}
-use Rattle.decoder.proofs.ring.next_block.Statement.{statement}
-use Rattle.decoder.proofs.ring.next_block.Tie as tie
+use Rattle.decoder.proofs.plan.next_block.Statement.{statement}
+use Rattle.decoder.proofs.plan.next_block.Tie as tie
 
 add-next : tie.Need-add-next
 add-next c = search needs

@@ -2,10 +2,10 @@
 use mathlib.Core.Path.{_∙_}
 use native.Mathlib.Omega.{arith}
 use Rattle.slices.proofs.Stored.{placed-stored}
-use Rattle.decoder.proofs.StraightLines.{lines, frame-outputs, put-back}
+use Rattle.rings.proofs.StraightLines.{lines, frame-outputs, put-back}
 use borrow.Author.Needs.{needs}
-use Rattle.decoder.proofs.samples.filter_on.Statement.{statement}
-use Rattle.decoder.proofs.samples.filter_on.Tie as tie
+use Rattle.rings.proofs.samples.filter_on.Statement.{statement}
+use Rattle.rings.proofs.samples.filter_on.Tie as tie
 
 filter-frame-requires : tie.Need-filter-frame-requires
 filter-frame-requires c κs =

@@ -1,0 +1,3 @@
+-- Laws of the ring and of filtering between two, for what is built above them.
+pub mod StraightLines
+pub mod MovingPast

@@ -1,0 +1,21 @@
+-- A frame filtered after the pasts that two rings hold, and stored into them.
+use Prim.Native.Nat.{ℕ}
+use mathlib.Core.List.{List, _++_}
+use lib.Ieee.{Float}
+use lib.ListN.{drop}
+use Rattle.slices.specs.Slices.{stored}
+use Rattle.rates.specs.declared.config.Lc3Config.{Lc3Config}
+use Rattle.coefficients.specs.declared.Taps.{Taps}
+use Rattle.filter.specs.Transition.{outputs}
+use Rattle.filter.specs.declared.transition.Transition.{Transition}
+use Rattle.rings.specs.Ring.{straight}
+
+-- a frame's outputs: those of its case, after the straight pasts of the two rings
+unfoldable pub filtered : Transition → Taps → Taps → Lc3Config → ℕ → List Float → List Float → List Float → List Float
+filtered t old new c start xs ys frame =
+    drop (c .history) (outputs t old new (c .fs .fade) (straight xs (c .history) start ++ frame) (straight ys (c .history) start))
+
+-- both rings with the frame's inputs and outputs stored, and the outputs
+abbrev pub filteredRings : Transition → Taps → Taps → Lc3Config → ℕ → List Float → List Float → List Float → List Float × List Float × List Float
+filteredRings t old new c start xs ys frame =
+    (stored xs start frame, stored ys start (filtered t old new c start xs ys frame), filtered t old new c start xs ys frame)
