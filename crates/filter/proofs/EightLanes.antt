@@ -160,7 +160,7 @@ module _ (t : Taps) (history : ℕ) (u : Usable t history) (x : List Float) (n :
         ∙ rw (← e) (grown-after f y first m k (listed s) mk km h (by-lanes s (λ j. f (grow f (take first y) (m + j))) lanes))
 
   -- a block of a run
-  pub run-made : (run : Run) (fade : ℕ) (y : List Float) (first m k : ℕ) → first + m ≡ history + n → m ≤ k → k ≤ m + 8 → first + (m + 8) ≤ length y →
+  run-made : (run : Run) (fade : ℕ) (y : List Float) (first m k : ℕ) → first + m ≡ history + n → m ≤ k → k ≤ m + 8 → first + (m + 8) ≤ length y →
       let line = grown (nextIn run history fade t (late (history - 16) x)) y first k in
       placed line (history + n)
       (listed (less x (16 + n) (weighedIn run fade n (sums (usedNum t) (usedDen t) x (16 + n) line (history + n - nearest t))))) ≡
@@ -175,6 +175,15 @@ module _ (t : Taps) (history : ℕ) (u : Usable t history) (x : List Float) (n :
       (λ l.
       let in-fade : length (grow f (take first y) (m + place l)) - history ≡ n + place l = omega (arith, made-long f y first m k e mk km h l) in
       rw (lane-less l, lane-weighed l, x-made f y first m k e mk km h l, F-made f y first m k e mk km h l, in-fade))
+
+  -- the same, by what a turn of the loop has made on the way
+  pub turn-made : (run : Run) (fade : ℕ) (y : List Float) (first m k next : ℕ) → first + m ≡ history + n → m ≤ k → k ≤ m + 8 → first + (m + 8) ≤ length y →
+      (num den line line′ : List Float) (back : ℕ) (filt faded out : Lanes) → num ≡ usedNum t → den ≡ usedDen t → back ≡ nearest t → next ≡ m + 8 →
+      line ≡ grown (nextIn run history fade t (late (history - 16) x)) y first k →
+      filt ≡ sums num den x (16 + n) line (history + n - back) → faded ≡ weighedIn run fade n filt → out ≡ less x (16 + n) faded →
+      line′ ≡ placed line (history + n) (listed out) → line′ ≡ grown (nextIn run history fade t (late (history - 16) x)) y first next
+  turn-made run fade y first m k next e mk km h num den line line′ back filt faded out en ed eb ex el ef ew eo es =
+      es ∙ rw (eo, ew, ef, en, ed, eb, el, ex) (run-made run fade y first m k e mk km h)
 
 -- a run that ends earlier is within the fade too
 pub within-less : (run : Run) (fade early late : ℕ) → early ≤ late → Within run fade late → Within run fade early

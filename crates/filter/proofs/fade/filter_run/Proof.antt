@@ -8,7 +8,7 @@ use Rattle.filter.specs.Fade.{grown}
 use Rattle.filter.specs.Blocks.{nextIn, late}
 use Rattle.coefficients.specs.declared.Taps.{Taps}
 use Rattle.filter.proofs.Growing.{grown-none}
-use Rattle.filter.proofs.EightLanes.{Usable, usedNum, usedDen, nearest, run-made, within-less}
+use Rattle.filter.proofs.EightLanes.{Usable, usedNum, usedDen, nearest, turn-made, within-less}
 use borrow.Author.Needs.{needs}
 use Rattle.filter.proofs.fade.filter_run.Statement.{statement}
 use Rattle.filter.proofs.fade.filter_run.Tie as tie
@@ -58,10 +58,10 @@ loop-again c =
       search needs,
       search needs,
       λ t u n d l.
-          c .before .before .store .ensures
-          ∙ rw (c .before .before .before .before .less-8 .ensures, c .before .before .before .before .before .weigh-in .ensures, c .before .before .before .before .before .before .filter-8 .ensures, n, d, l, i .inv .3 t u n d l, e)
-          (run-made t (s .args .history) u (s .args .x .now) (s .args .from + m) (omega arith) (s .args .run) (s .args .fade) (s .args .y .now)
-          (s .args .history + s .args .from) m (min (8 * i .b) (s .args .len)) (omega arith) (omega arith) (omega arith) (omega arith)),
+          turn-made t (s .args .history) u (s .args .x .now) (s .args .from + m) (omega arith) (s .args .run) (s .args .fade) (s .args .y .now)
+          (s .args .history + s .args .from) m (min (8 * i .b) (s .args .len)) _ (omega arith) (omega arith) (omega arith) (omega arith) _ _ _ _ _ _ _ _ n d l e (i .inv .3 t u n d l)
+          (c .before .before .before .before .before .before .filter-8 .ensures) (c .before .before .before .before .before .weigh-in .ensures)
+          (c .before .before .before .before .less-8 .ensures) (c .before .before .store .ensures),
     )
 
 returns : tie.Need-returns Inv-loop μ-loop
