@@ -1,5 +1,5 @@
 /*
- * A decoder of 48000 Hz and 10 ms frames: a start, three frames without a pitch, a filtered one, a refused call
+ * A decoder of 48000 Hz and 10 ms frames: a start, three frames without a pitch, a filtered one, refused calls
  * and a loss mark. examples/run compiles it, runs it and holds what it prints to decoder.expected.
  */
 #include "nabiteke_published.h"

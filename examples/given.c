@@ -1,7 +1,7 @@
 /*
  * Stands in for our archive where an example's expected output is made: samples and pitches are the given Rust's,
  * through the C face of bench/rust. What the Rust does not have (answers 1, 2, 5, 6 and 9, the settled report) is
- * written here once more from the rules. The Rust has the published rows within itself and takes no others.
+ * written here once more, as far as the examples need it. The Rust has the published rows within itself and takes no others.
  */
 #include "nabiteke.h"
 #include <stdio.h>

@@ -20,7 +20,8 @@
  *
  * What the caller owes
  *
- *   No value in an array, a struct or a number can do harm. These can, and no call can see them:
+ *   No value of a sample, a coefficient, a struct or a number but a count can do harm. To break one of these can, and
+ *   no call can see it:
  *   - a pointer is never NULL, and what it points to is there: a count says how many entries an array has;
  *   - floats and structs are aligned to 4 bytes, 16-bit samples to 2;
  *   - what a call writes (its struct, a decoder's samples, an encoder's record) overlaps nothing else that it is lent;
@@ -31,15 +32,15 @@
  *
  * What a refused call leaves
  *
- *   A refused frame or loss mark changes nothing: the struct and the samples keep their bits, and an encoder's
- *   record says absent, 0 bits. A refused start leaves the cleared state of 48000 Hz, 10000 us.
+ *   A refused frame or loss mark changes nothing: the struct and the samples keep their bits (of a NaN's payload this
+ *   is tested, not proved), and an encoder's record says absent, 0 bits. A refused start leaves the cleared state of 48000 Hz, 10000 us.
  *   A struct that was never started is no danger: one of zero bytes is answered with NABITEKE_UNFIT, and one of
  *   any other bytes is answered with NABITEKE_UNFIT or works like a started one with that past.
  *
  * Time
  *
  *   The slowest frames are those of subnormal numbers, and an encoder that falls into digital silence stays in them. On
- *   x86-64 they take 10 to 90 times the typical frame, still about 2% of a frame's duration at most (docs/BENCHMARK.md).
+ *   x86-64 they take 10 to 90 times the typical frame, at most some 2.1% of a frame's duration (docs/BENCHMARK.md).
  *
  * Stack
  *
@@ -64,7 +65,8 @@
 extern "C" {
 #endif
 
-/* What a call answers. Checked in this order: a start 1, 2; a frame 9, 3, 4, 5, 6, and a decoder's then 7, 8. */
+/* What a call answers. Checked in this order: a start 1, 2; a frame 9, 3, 4, 5, 6, and a decoder's then 7, 8;
+   a loss mark 9. */
 enum nabiteke_answer {
     NABITEKE_DONE = 0,         /* done */
     NABITEKE_RATE = 1,         /* the rate is not one of the six */
@@ -181,14 +183,14 @@ static inline uint32_t nabiteke_decoder_lost(nabiteke_decoder *decoder)
 }
 
 /*
- * Whether the decoder has settled: 1 exactly where it has accepted 3 inactive frames in a row (4 at 7500 us) since its
+ * Whether the decoder has settled. From a start: 1 exactly where it has accepted 3 inactive frames in a row (4 at 7500 us) since its
  * last start or loss mark, else 0. A frame is accepted where its call answers 0, and inactive where it has no active
  * pitch; refused frames do not count, and active frames after that row leave the report at 1.
  *
  * What it is for: take two decoders with any pasts and the same rate, duration and coefficients. Once both have
  * accepted the same 3 inactive frames in a row (4 at 7500 us), with no start or loss mark since the first of them, they
- * give the same answers and sample bits for every later frame, as long as the later frames given to both are equal
- * one by one, and until either has a start or a loss mark.
+ * give the same answers and sample bits (any NaN for any NaN) for every later frame, as long as the later frames given
+ * to both are equal one by one, and until either has a start or a loss mark.
  */
 static inline uint32_t nabiteke_decoder_settled(const nabiteke_decoder *decoder)
 {
