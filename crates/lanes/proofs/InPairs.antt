@@ -1,7 +1,7 @@
 -- Steps taken two in a turn, and a last one where their number is odd.
 use Prim.Native.Nat.{ℕ, suc, _+_, _*_, _≤_}
 use mathlib.Core.Path.{_≡_, refl, sym}
-use mathlib.Core.Bool.{Bool, true, false, _&&_, true≢false}
+use mathlib.Core.Bool.{Bool, true, false, cond, _&&_, true≢false}
 use mathlib.Core.List.{List}
 use native.Mathlib.Omega.{arith}
 use borrow.Author.Tests.{leb-true}
@@ -12,16 +12,22 @@ use Rattle.lanes.specs.Lanes.{steps, firInside}
 use Rattle.lanes.specs.declared.Lanes.{Lanes}
 
 module _ (step : Lanes → ℕ → Lanes) (s : Lanes) where
-  pub two-more : (j : ℕ) → step (step (steps step s (2 * j)) (2 * j)) (2 * j + 1) ≡ steps step s (2 * (j + 1))
+  -- a turn: t and then u are made of r
+  pub two-more : (j : ℕ) (r t u : Lanes) → r ≡ steps step s (2 * j) → t ≡ step r (2 * j) → u ≡ step t (2 * j + 1) → u ≡ steps step s (2 * (j + 1))
   unfolding steps
-  two-more j =
+  two-more j r t u er et eu =
       let e : 2 * (j + 1) ≡ suc (suc (2 * j)) = omega arith in
       let o : 2 * j + 1 ≡ suc (2 * j) = omega arith in
-      rw (e, o)
+      rw (eu, et, er, e, o)
 
-  pub one-last : (n k : ℕ) → n ≡ k + 1 → step (steps step s k) k ≡ steps step s n
+  -- all n steps, where the test b let them be taken
+  pub all-taken : (b : Bool) (n j : ℕ) (r : Lanes) → b ≡ true → r ≡ steps step s (2 * j) → 2 * j ≡ n → r ≡ cond b (steps step s n) s
+  all-taken b n j r h er e = rw (er, h, e)
+
+  -- and with a last one by itself
+  pub last-taken : (b : Bool) (n j k : ℕ) (r t : Lanes) → b ≡ true → r ≡ steps step s (2 * j) → k ≡ 2 * j → n ≡ k + 1 → t ≡ step r k → t ≡ cond b (steps step s n) s
   unfolding steps
-  one-last n k h = let e : n ≡ suc k = omega arith in rw e
+  last-taken b n j k r t h er ek e et = let o : n ≡ suc (2 * j) = omega arith in rw (et, er, h, o, ek)
 
 -- what the test says of the lengths
 pub inside : (c x : List Float) (i : ℕ) → firInside c x i ≡ true → (i + 8 ≤ length x) × (length c ≤ i + 1)

@@ -7,7 +7,7 @@ use borrow.Author.Tests.{not-true, not-false}
 use lib.ListN.{length}
 use Rattle.floats.specs.Single.{at}
 use Rattle.lanes.specs.Lanes.{minus, steps, firInside, firTaken}
-use Rattle.lanes.proofs.InPairs.{two-more, one-last, inside}
+use Rattle.lanes.proofs.InPairs.{two-more, all-taken, last-taken, inside}
 use borrow.Author.Needs.{needs}
 use Rattle.lanes.proofs.sub_fir.Statement.{statement}
 use Rattle.lanes.proofs.sub_fir.Tie as tie
@@ -39,7 +39,7 @@ loop-again c =
       search needs,
       search needs,
       search needs,
-      rw (c .sub-scaled2 .ensures, c .before .before .sub-scaled .ensures, i .inv .5) (two-more _ _ (i .j)),
+      two-more _ _ (i .j) _ _ _ (i .inv .5) (c .before .before .sub-scaled .ensures) (c .sub-scaled2 .ensures),
     )
 
 returns-2 : tie.Need-returns-2 Inv-loop μ-loop
@@ -47,15 +47,14 @@ unfolding firTaken
 returns-2 c =
     let i = c .before .before .before .before .loop in
     let terms = length (c .before .before .before .before .before .before .before .before .before .args .c .now) in
-    let e : i .j ≡ terms / 2 = omega arith in
-    rw (i .inv .0, c .sub-scaled3 .ensures, i .inv .5, e) (one-last _ _ terms (2 * (terms / 2)) (omega arith))
+    last-taken _ _ _ terms (i .j) (2 * (terms / 2)) _ _ (i .inv .0) (i .inv .5) (omega arith) (omega arith) (c .sub-scaled3 .ensures)
 
 returns-3 : tie.Need-returns-3 Inv-loop μ-loop
 unfolding firTaken
 returns-3 c =
     let i = c .before .before .loop in
-    let e : 2 * i .j ≡ length (c .before .before .before .before .before .before .before .args .c .now) = omega arith in
-    rw (i .inv .0, i .inv .5, e)
+    let terms = length (c .before .before .before .before .before .before .before .args .c .now) in
+    all-taken _ _ _ terms (i .j) _ (i .inv .0) (i .inv .5) (omega arith)
 
 pub sub-fir-spec : {M : Type 1} → statement M
 sub-fir-spec =
