@@ -1,2 +1,3 @@
 -- What the contracts of `appendix_cases` cite.
 pub mod Past
+pub mod Cases

@@ -6,7 +6,7 @@ use rates::answer::number;
 use vectors::numbers::of_four;
 use vectors::read::read_bytes;
 ghost use mathlib.Core.Path.{_≡_};
-ghost use Rattle.appendix_frames.specs.Encodings.{begun, tallied};
+ghost use Rattle.appendix_frames.specs.Encodings.{begun, tallied, StartTaken};
 
 // The encoder, how many frames it has had, and the tally.
 pub struct Encoding {
@@ -38,7 +38,9 @@ pub fn with_tally(encoding: Encoding, tally: Tally) -> Encoding
 }
 
 // Starts the encoder: a rate and a duration go in.
-pub fn start_encoder(fd: i32, encoding: Encoding) -> Encoding {
+pub fn start_encoder(fd: i32, encoding: Encoding) -> Encoding
+    ensures { λ r. ⌜ StartTaken encoding r ⌝ }
+{
     let tally = encoding.tally;
     let mut bytes = [0u8; 8];
     if !read_bytes(fd, &mut bytes) {
@@ -51,9 +53,9 @@ pub fn start_encoder(fd: i32, encoding: Encoding) -> Encoding {
     if number(answer) != 0 {
         return with_tally(encoding, tally.stop(b"a start that is refused"));
     }
-    let encoder = started.encoder;
+    let next = started.encoder;
     Encoding {
-        encoder,
+        encoder: next,
         frames: 0,
         tally,
     }

@@ -1,6 +1,8 @@
 // A frame is read, encoded and compared.
 use crate::encoding::Encoding;
 use crate::encoding::with_tally;
+use crate::given::Given;
+use crate::given::read_frame;
 use appendix_tally::near::CORRELATION;
 use appendix_tally::near::SIGNAL;
 use appendix_tally::tally::Place;
@@ -14,58 +16,36 @@ use published::RESAMPLING;
 use published::SIGNAL_INTERPOLATION;
 use rates::answer::number;
 use vectors::numbers::of_four;
-use vectors::numbers::of_two;
 use vectors::part::first;
 use vectors::part::first_signed;
 use vectors::read::Floats;
-use vectors::read::Samples;
-use vectors::read::read_bytes;
-use vectors::read::read_floats;
-use vectors::read::read_samples;
 ghost use mathlib.Core.Path.{_≡_};
+ghost use Prim.Native.Nat.{_+_, _%_, _^_};
+ghost use lib.ListN.{take};
 ghost use Rattle.appendix_frames.specs.Delayed.{delayedOf};
+ghost use Rattle.appendix_frames.specs.Frames.{numbersCompared, pitchCompared, signalCompared, correlationCompared, reportsCompared, frameCompared, Encoded, FrameTaken};
 
 // One more, or 0 after the largest number.
-fn following(frames: u32) -> u32 {
+fn following(frames: u32) -> u32
+    ensures { λ r. ⌜ r ≡ (frames + 1) % 2 ^ 32 ⌝ }
+{
     std::num::wrapping_add_u32(frames, 1)
 }
 
-// What was read of a frame: whether it is whole, what goes in, and what is published of it.
-struct Given {
-    whole: bool,
-    head: [u8; 7],
-    samples: Samples,
-    reports: [u8; 16],
-    signal: Floats,
-}
-
-fn read_frame(fd: i32) -> Given {
-    let mut head = [0u8; 7];
-    let head_whole = read_bytes(fd, &mut head);
-    let samples = read_samples(fd, of_two(head[5], head[6]) as usize);
-    let mut reports = [0u8; 16];
-    let reports_whole = read_bytes(fd, &mut reports);
-    let signal = read_floats(fd, of_two(reports[14], reports[15]) as usize);
-    let whole = head_whole && samples.whole && reports_whole && signal.whole;
-    Given {
-        whole,
-        head,
-        samples,
-        reports,
-        signal,
-    }
-}
-
 // Encodes a frame with the published tables.
-fn encode(encoder: Encoder, head: &[u8; 7], given: Samples) -> Framed {
-    let samples = given.values;
+fn encode(encoder: Encoder, given: Given) -> Framed
+    ensures { λ r. ⌜ Encoded encoder given r ⌝ }
+{
+    let head = given.head;
+    let read = given.samples;
+    let samples = read.values;
     let nbits = of_four(head[1], head[2], head[3], head[4]);
     let near_nyquist = head[0] != 0;
     encoder.frame(
         &RESAMPLING,
         &CORRELATION_INTERPOLATION,
         &SIGNAL_INTERPOLATION,
-        first_signed(&samples, given.count),
+        first_signed(&samples, read.count),
         nbits,
         near_nyquist,
     )
@@ -80,7 +60,9 @@ fn compare_numbers(
     got_present: u64,
     got_index: u64,
     got_active: u64,
-) -> Tally {
+) -> Tally
+    ensures { λ r. ⌜ r ≡ numbersCompared tally present index active «got_present» «got_index» «got_active» ⌝ }
+{
     let compared = tally.number(b"pitch_present", present as u64, got_present);
     let further = compared.number(b"pitch_index", index as u64, got_index);
     further.number(b"ltpf_active", active as u64, got_active)
@@ -88,7 +70,9 @@ fn compare_numbers(
 
 // Compares the pitch record with three published numbers, of which the index and the active mark are
 // 0 where there is no pitch.
-fn compare_pitch(tally: Tally, present: u8, index: u32, active: u8, pitch: PitchRecord) -> Tally {
+fn compare_pitch(tally: Tally, present: u8, index: u32, active: u8, pitch: PitchRecord) -> Tally
+    ensures { λ r. ⌜ r ≡ pitchCompared tally present index active pitch ⌝ }
+{
     match pitch {
         PitchRecord::Absent => compare_numbers(tally, present, index, active, 0, 0, 0),
         PitchRecord::Present(found) => {
@@ -113,7 +97,9 @@ fn delayed(kept: &[f32; 276], duration: u32) -> &[f32]
 }
 
 // Compares that signal.
-fn compare_signal(tally: Tally, signal: Floats, kept: &[f32; 276], duration: u32) -> Tally {
+fn compare_signal(tally: Tally, signal: Floats, kept: &[f32; 276], duration: u32) -> Tally
+    ensures { λ r. ⌜ r ≡ signalCompared tally (take (signal .count) (signal .values)) (now (kept .entry)) duration ⌝ }
+{
     let published = signal.values;
     tally.floats(
         b"x_tilde_12k8d",
@@ -124,7 +110,9 @@ fn compare_signal(tally: Tally, signal: Floats, kept: &[f32; 276], duration: u32
 }
 
 // Compares the activation's correlation, which the encoder remembers.
-fn compare_correlation(tally: Tally, bits: u32, mem_nc: f32) -> Tally {
+fn compare_correlation(tally: Tally, bits: u32, mem_nc: f32) -> Tally
+    ensures { λ r. ⌜ r ≡ correlationCompared tally bits «mem_nc» ⌝ }
+{
     let published = [float_of(bits); 1];
     let kept = [mem_nc; 1];
     tally.floats(b"nc_ltpf", &published, &kept, CORRELATION)
@@ -137,7 +125,9 @@ fn compare_reports(
     t_prev: u64,
     pitch: PitchRecord,
     mem_nc: f32,
-) -> Tally {
+) -> Tally
+    ensures { λ r. ⌜ r ≡ reportsCompared tally (now (reports .entry)) «t_prev» pitch «mem_nc» ⌝ }
+{
     let t_curr = of_four(reports[6], reports[7], reports[8], reports[9]);
     let index = of_four(reports[1], reports[2], reports[3], reports[4]);
     let nc_ltpf = of_four(reports[10], reports[11], reports[12], reports[13]);
@@ -147,7 +137,9 @@ fn compare_reports(
 }
 
 // Compares all that is published of a frame and that shows.
-fn compare_frame(tally: Tally, given: Given, encoder: Encoder, pitch: PitchRecord) -> Tally {
+fn compare_frame(tally: Tally, given: Given, encoder: Encoder, pitch: PitchRecord) -> Tally
+    ensures { λ r. ⌜ r ≡ frameCompared tally given encoder pitch ⌝ }
+{
     let kept = encoder.x_12p8;
     let memory = encoder.memory;
     let reports = given.reports;
@@ -162,13 +154,17 @@ fn compare_frame(tally: Tally, given: Given, encoder: Encoder, pitch: PitchRecor
     )
 }
 
-// Encodes the frame that was read, and compares it.
-fn take_frame(encoding: Encoding, given: Given) -> Encoding {
+// A frame: it goes through the encoder, and what is published of it is compared.
+pub fn next_frame(fd: i32, encoding: Encoding) -> Encoding
+    ensures { λ r. ⌜ FrameTaken encoding r ⌝ }
+{
+    let given = read_frame(fd);
     let tally = encoding.tally;
     let encoder = encoding.encoder;
-    let head = given.head;
-    let samples = given.samples;
-    let framed = encode(encoder, &head, samples);
+    if !given.whole {
+        return with_tally(encoding, tally.stop(b"a frame that is cut off or too long"));
+    }
+    let framed = encode(encoder, given);
     let answer = framed.answer;
     if number(answer) != 0 {
         return with_tally(encoding, tally.stop(b"a frame that is refused"));
@@ -184,14 +180,4 @@ fn take_frame(encoding: Encoding, given: Given) -> Encoding {
         frames: following(encoding.frames),
         tally: compare_frame(tally.at(place), given, next, pitch),
     }
-}
-
-// A frame: it goes through the encoder, and what is published of it is compared.
-pub fn next_frame(fd: i32, encoding: Encoding) -> Encoding {
-    let given = read_frame(fd);
-    if !given.whole {
-        let tally = encoding.tally;
-        return with_tally(encoding, tally.stop(b"a frame that is cut off or too long"));
-    }
-    take_frame(encoding, given)
 }

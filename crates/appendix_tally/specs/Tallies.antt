@@ -1,9 +1,12 @@
 -- The tally of a comparison with Appendix C: what each vector adds to it.
-use Prim.Native.Nat.{ℕ, _+_, _-_}
+use Prim.Native.Nat.{ℕ, zero, suc, _+_, _-_, _≤_, min}
 use mathlib.Core.Bool.{true, false, cond}
+use mathlib.Core.List.{List}
 use mathlib.Core.Path.{_≡_}
 use lib.Dec.{leb, eqb}
 use lib.Ieee.{Float}
+use lib.ListN.{length}
+use Rattle.floats.specs.Single.{at}
 use Rattle.appendix_tally.specs.Near.{near}
 use Rattle.appendix_tally.specs.declared.tally.Place.{Place}
 use Rattle.appendix_tally.specs.declared.tally.Tally.{Tally}
@@ -38,12 +41,26 @@ numberCompared t expected got = counted t 1 (cond (eqb expected got) 0 1)
 abbrev pub outBy : Float → Float → Float → ℕ
 outBy expected got tolerance = cond (near expected got tolerance) 0 1
 
--- a vector of floats is one more vector, at the same place
-pub record FloatsCompared (t r : Tally) : Type 0 where
-  pub values : ℕ
-  pub out : ℕ
-  pub equal : r ≡ counted t values out
+-- how many of the first n values are out of tolerance
+unfoldable pub outOf : ℕ → List Float → List Float → Float → ℕ
+outOf zero expected got tolerance = 0
+outOf (suc n) expected got tolerance = plus (outOf n expected got tolerance) (outBy (at expected n) (at got n) tolerance)
+
+-- as many values as both lists have
+abbrev pub both : List Float → List Float → ℕ
+both expected got = min (length expected) (length got)
+
+-- a vector of floats, as far as there are both
+unfoldable pub floatsCompared : Tally → List Float → List Float → Float → Tally
+floatsCompared t expected got tolerance = counted t (both expected got) (outOf (both expected got) expected got tolerance)
 
 -- nothing more is compared
 abbrev pub ended : Tally → Tally
 ended t = record { more = false; place = t .place; vectors = t .vectors; values = t .values; out = t .out }
+
+-- no count falls, and what has ended stays ended
+pub record Grown (t r : Tally) : Type 0 where
+  pub vectors : t .vectors ≤ r .vectors
+  pub values : t .values ≤ r .values
+  pub out : t .out ≤ r .out
+  pub ends : t .more ≡ false → r .more ≡ false

@@ -5,7 +5,7 @@ use floats::bits::bits_of;
 use libc::STDERR_FILENO;
 use libc::STDOUT_FILENO;
 ghost use mathlib.Core.Path.{_≡_};
-ghost use Rattle.appendix_tally.specs.Tallies.{plus, empty, placedAt, counted, outBy, numberCompared, FloatsCompared, ended};
+ghost use Rattle.appendix_tally.specs.Tallies.{plus, empty, placedAt, counted, outBy, numberCompared, floatsCompared, ended};
 
 // Where vectors stand: nowhere yet, in a frame of the encoder, or in a case of the decoder.
 pub enum Place {
@@ -138,7 +138,7 @@ impl Tally {
         got: &'a [f32],
         tolerance: f32,
     ) -> Self
-        ensures { λ r. ⌜ FloatsCompared self r ⌝ }
+        ensures { λ r. ⌜ r ≡ floatsCompared self (now (expected .entry)) (now (got .entry)) tolerance ⌝ }
     {
         let mut out: u64 = 0;
         let mut i = 0;

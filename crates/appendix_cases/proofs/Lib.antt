@@ -1,0 +1,2 @@
+-- A case takes nothing from the tally.
+pub mod Grown

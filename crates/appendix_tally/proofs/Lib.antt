@@ -1,0 +1,2 @@
+-- No step of a comparison takes anything from the tally.
+pub mod Grown
