@@ -20,8 +20,9 @@ use Rattle.decoder.specs.declared.state.Started.{Started}
 use Rattle.decoder.specs.declared.frame.Framed.{Framed}
 use Rattle.decoder.specs.declared.frame.FramedInPlace.{FramedInPlace}
 use Rattle.settling.specs.Calls.{Given, framedBy}
-use Rattle.nabiteke.specs.Words.{whereDone}
-use Rattle.nabiteke.specs.DecoderArrays.{DecoderArrays, arrays, registersFrom, readRegisters, readDecoder, numbersOf, keptOf, Fits32}
+use Rattle.c_arrays.specs.Words.{whereDone}
+use Rattle.c_arrays.specs.Registers.{registersFrom, readRegisters, keptOf}
+use Rattle.nabiteke.specs.DecoderArrays.{DecoderArrays, arrays, readDecoder, numbersOf, Fits32}
 use Rattle.nabiteke.specs.DecoderCalls.{handed, frameCall, handedNumbers, lostCall}
 use Rattle.nabiteke.proofs.DecoderFrames.{Outcome, refusal, success, outcome}
 

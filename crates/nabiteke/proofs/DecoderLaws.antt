@@ -3,7 +3,6 @@
 -- `zero-frame`, `zero-lost`: numbers of zero bytes are answered with 9, and nothing changes.
 use Prim.Native.Nat.{ℕ}
 use mathlib.Core.Path.{_≡_, refl}
-use mathlib.Core.Bool.{Bool, true, false}
 use mathlib.Core.List.{List, [], _∷_, map}
 use native.Mathlib.Omega.{arith}
 use borrow.Author.Tests.{ne-eqb}
@@ -23,16 +22,12 @@ use Rattle.decoder.specs.Frame.{framed, lostWith, lostFrom}
 use Rattle.decoder.specs.declared.state.Decoder.{Decoder}
 use Rattle.decoder.specs.declared.frame.Framed.{Framed}
 use Rattle.settling.specs.Calls.{Given, Call, start, frame, loss, framedBy, after, afterAll, replyOf, reply, replies}
-use Rattle.nabiteke.specs.Words.{isYes, asFlag}
-use Rattle.nabiteke.specs.DecoderArrays.{DecoderArrays, arrays, registersFrom, readDecoder, numbersOf, writtenDecoder}
+use Rattle.c_arrays.specs.Registers.{registersFrom}
+use Rattle.c_arrays.proofs.Flags.{flag-back}
+use Rattle.nabiteke.specs.DecoderArrays.{DecoderArrays, arrays, readDecoder, numbersOf, writtenDecoder}
 use Rattle.nabiteke.specs.DecoderCalls.{startCall, frameCall, lostCall, settledCall, handed, handedNumbers, arraysAfter, seen, shown, arraysAfterAll, seenAll}
 use Rattle.nabiteke.proofs.Folds.{all-kept}
 use Rattle.nabiteke.proofs.DecoderFrames.{Outcome, refusal, success, outcome, unfit-some}
-
--- a flag reads back
-pub flag-back : (b : Bool) → isYes (asFlag b) ≡ b
-flag-back true = refl
-flag-back false = refl
 
 -- a state that was written reads back
 pub read-written : (d : Decoder) → length (d .registers .«c_num») ≡ 11 → length (d .registers .«c_den») ≡ 13 → readDecoder (writtenDecoder d) ≡ d

@@ -24,10 +24,12 @@ use Rattle.search.specs.declared.pitch.Detected.{Detected}
 use Rattle.encoder.specs.declared.frame.Framed.{Framed}
 use Rattle.encoder.specs.declared.state.Encoder.{Encoder}
 use Rattle.encoder.proofs.Frames.{Takes, decoder-takes}
-use Rattle.nabiteke.specs.EncoderArrays.{EncoderArrays, arrays, readEncoder, writtenEncoder, recordOf}
+use Rattle.c_arrays.specs.Pitch.{recordOf}
+use Rattle.c_arrays.specs.EncoderState.{EncoderArrays, arrays, readEncoder}
+use Rattle.c_arrays.proofs.Flags.{flag-back}
+use Rattle.nabiteke.specs.EncoderArrays.{writtenEncoder}
 use Rattle.nabiteke.specs.EncoderCalls.{Given, framedBy, startCall, frameCall, handed, Call, start, frame, after, arraysAfter, afterAll, arraysAfterAll, Recorded, refused, absent, present}
 use Rattle.nabiteke.proofs.Folds.{all-kept}
-use Rattle.nabiteke.proofs.DecoderLaws.{flag-back}
 use Rattle.nabiteke.proofs.EncoderFrames.{Outcome, refusal, success, refused-some, outcome}
 
 -- a state that was written reads back

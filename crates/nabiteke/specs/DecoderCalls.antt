@@ -7,8 +7,9 @@ use Rattle.decoder.specs.State.{started}
 use Rattle.decoder.specs.Frame.{lostFrom}
 use Rattle.decoder.specs.declared.frame.Framed.{Framed}
 use Rattle.settling.specs.Calls.{Given, Call, start, frame, loss, framedBy, Reply}
-use Rattle.nabiteke.specs.Words.{asFlag, whereDone}
-use Rattle.nabiteke.specs.DecoderArrays.{DecoderArrays, arrays, readDecoder, numbersOf, writtenDecoder, sideFrom}
+use Rattle.c_arrays.specs.Words.{asFlag, whereDone}
+use Rattle.c_arrays.specs.Pitch.{sideFrom}
+use Rattle.nabiteke.specs.DecoderArrays.{DecoderArrays, arrays, readDecoder, numbersOf, writtenDecoder}
 
 -- what a frame call is given beside the arrays
 abbrev pub given : List Float → List Float → ℕ → ℕ → ℕ → ℕ → List Float → Given

@@ -10,8 +10,10 @@ use Rattle.encoder.specs.State.{started}
 use Rattle.encoder.specs.Frame.{framed}
 use Rattle.encoder.specs.declared.frame.Framed.{Framed}
 use Rattle.encoder.specs.declared.state.Encoder.{Encoder}
-use Rattle.nabiteke.specs.Words.{isYes, asFlag, whereDone}
-use Rattle.nabiteke.specs.EncoderArrays.{EncoderArrays, readEncoder, writtenEncoder, recordOf}
+use Rattle.c_arrays.specs.Words.{isYes, asFlag, whereDone}
+use Rattle.c_arrays.specs.Pitch.{recordOf}
+use Rattle.c_arrays.specs.EncoderState.{EncoderArrays, readEncoder}
+use Rattle.nabiteke.specs.EncoderArrays.{writtenEncoder}
 
 -- what a frame call is given beside the arrays
 pub record Given : Type 0 where

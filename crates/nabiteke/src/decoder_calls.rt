@@ -1,14 +1,15 @@
 // The decoder's functions for C.
-use crate::decoder_arrays::read_registers;
-use crate::decoder_arrays::read_side;
-use crate::decoder_arrays::registers_from;
-use crate::decoder_arrays::write_if_done;
+use crate::decoder_arrays::write_numbers;
 use crate::decoder_arrays::write_numbers_if_done;
-use crate::decoder_arrays::write_registers;
-use crate::words::answer_word;
-use crate::words::as_flag;
-use crate::words::is_yes;
-use crate::words::wide;
+use c_arrays::pitch::read_side;
+use c_arrays::registers::read_registers;
+use c_arrays::registers::registers_from;
+use c_arrays::registers::write_kept;
+use c_arrays::registers::write_kept_if_done;
+use c_arrays::words::answer_word;
+use c_arrays::words::as_flag;
+use c_arrays::words::is_yes;
+use c_arrays::words::wide;
 use decoder::frame::frame_in_place;
 use decoder::frame::lost_in_place;
 use decoder::state::start;
@@ -36,7 +37,8 @@ pub extern "C" fn nabiteke_decoder_start_(
     let registers = decoder.registers;
     let x_hat_mem = decoder.x_hat_mem;
     let x_hat_ltpf_mem = decoder.x_hat_ltpf_mem;
-    write_registers(numbers, kept, registers, decoder.block_start_index);
+    write_numbers(numbers, registers, decoder.block_start_index);
+    write_kept(kept, registers);
     *inputs = x_hat_mem;
     *outputs = x_hat_ltpf_mem;
     answer_word(answer)
@@ -72,7 +74,8 @@ pub extern "C" fn nabiteke_decoder_frame_(
         side,
         samples,
     );
-    write_if_done(numbers, kept, framed)
+    write_kept_if_done(kept, framed);
+    write_numbers_if_done(numbers, framed)
 }
 
 // Marks that frames were lost before the next one.

@@ -1,13 +1,15 @@
 // The encoder's functions for C.
-use crate::encoder_arrays::read_encoder;
-use crate::encoder_arrays::write_encoder;
-use crate::encoder_arrays::write_encoder_if_done;
-use crate::encoder_arrays::write_record;
-use crate::words::answer_word;
-use crate::words::is_yes;
+use crate::encoder_arrays::write_numbers;
+use crate::encoder_arrays::write_numbers_if_done;
+use c_arrays::encoder_state::read_encoder;
+use c_arrays::encoder_state::write_floats;
+use c_arrays::encoder_state::write_floats_if_done;
+use c_arrays::pitch::write_record;
+use c_arrays::words::answer_word;
+use c_arrays::words::is_yes;
 use encoder::state::start;
 ghost use mathlib.Core.Path.{_≡_};
-ghost use Rattle.nabiteke.specs.EncoderArrays.{arrays};
+ghost use Rattle.c_arrays.specs.EncoderState.{arrays};
 ghost use Rattle.nabiteke.specs.EncoderCalls.{given, startCall, frameCall};
 
 // Starts an encoder, or starts it anew.
@@ -26,7 +28,8 @@ pub extern "C" fn nabiteke_encoder_start_(
     let started = start(rate, duration);
     let answer = started.answer;
     let encoder = started.encoder;
-    write_encoder(numbers, memories, x_s, x_12p8, x_6p4, encoder);
+    write_numbers(numbers, encoder);
+    write_floats(memories, x_s, x_12p8, x_6p4, encoder);
     answer_word(answer)
 }
 
@@ -53,5 +56,6 @@ pub extern "C" fn nabiteke_encoder_frame_(
     let framed = encoder.frame(resampling, correlation, signal, samples, nbits, near);
     let pitch = framed.pitch;
     write_record(record, pitch, framed.nbits_ltpf);
-    write_encoder_if_done(numbers, memories, x_s, x_12p8, x_6p4, framed)
+    write_floats_if_done(memories, x_s, x_12p8, x_6p4, framed);
+    write_numbers_if_done(numbers, framed)
 }

@@ -5,4 +5,3 @@ pub mod decoder_calls;
 mod encoder_arrays;
 pub mod encoder_calls;
 pub mod lengths;
-mod words;

@@ -21,21 +21,31 @@ read-side-requires c κs = search needs
 frame-in-place-requires : tie.Need-frame-in-place-requires
 frame-in-place-requires c κs = search needs
 
-write-if-done-requires : tie.Need-write-if-done-requires
-write-if-done-requires c κs =
-    frame-fits (arrays (c .before .before .before .before .before .before .before .before .before .before .before .before .before .before .before .before .before .args .numbers .now) (c .before .before .before .before .before .before .before .before .before .before .before .before .before .before .before .before .before .args .kept .now) (c .before .before .before .before .before .before .before .before .before .before .before .before .before .before .before .before .before .args .inputs .now) (c .before .before .before .before .before .before .before .before .before .before .before .before .before .before .before .before .before .args .outputs .now))
-    (given (c .before .before .before .before .before .before .before .before .before .before .before .before .before .before .before .before .before .args .numerators .now) (c .before .before .before .before .before .before .before .before .before .before .before .before .before .before .before .before .before .args .denominators .now) (c .before .before .before .before .before .before .before .before .before .before .before .before .before .before .before .before .before .args .pitch-present) (c .before .before .before .before .before .before .before .before .before .before .before .before .before .before .before .before .before .args .pitch-index) (c .before .before .before .before .before .before .before .before .before .before .before .before .before .before .before .before .before .args .pitch-active) (c .before .before .before .before .before .before .before .before .before .before .before .before .before .before .before .before .before .args .nbits) (c .before .before .before .before .before .before .before .before .before .before .before .before .before .before .before .before .before .args .samples .now))
-    _ _ _ _ _ _ _ (c .before .before .before .before .before .before .before .before .before .before .before .read-registers .ensures) (c .before .before .before .before .before .before .before .before .before .wide .ensures .0) (c .before .before .before .before .before .before .before .before .read-side .ensures) (c .before .before .before .before .frame-in-place .ensures)
+write-kept-if-done-requires : tie.Need-write-kept-if-done-requires
+write-kept-if-done-requires c κs = search needs
+
+write-numbers-if-done-requires : tie.Need-write-numbers-if-done-requires
+write-numbers-if-done-requires c κs =
+    let f = c .before .before .before .before .before in
+    let s = f .before .before .before .before in
+    let r = s .before .before .before in
+    let a = r .before .before .before .before .before .before .args in
+    frame-fits (arrays (a .numbers .now) (a .kept .now) (a .inputs .now) (a .outputs .now)) (given (a .numerators .now) (a .denominators .now) (a .pitch-present) (a .pitch-index) (a .pitch-active) (a .nbits) (a .samples .now))
+    _ _ _ _ _ _ _ (r .read-registers .ensures) (s .before .wide .ensures .0) (s .read-side .ensures) (f .frame-in-place .ensures)
 
 same-length : tie.Need-same-length
 same-length c = search needs
 
 returns : tie.Need-returns
 returns c =
-    frame-left (arrays (c .before .before .before .before .before .before .before .before .before .before .before .before .before .before .before .before .before .before .args .numbers .now) (c .before .before .before .before .before .before .before .before .before .before .before .before .before .before .before .before .before .before .args .kept .now) (c .before .before .before .before .before .before .before .before .before .before .before .before .before .before .before .before .before .before .args .inputs .now) (c .before .before .before .before .before .before .before .before .before .before .before .before .before .before .before .before .before .before .args .outputs .now))
-    (given (c .before .before .before .before .before .before .before .before .before .before .before .before .before .before .before .before .before .before .args .numerators .now) (c .before .before .before .before .before .before .before .before .before .before .before .before .before .before .before .before .before .before .args .denominators .now) (c .before .before .before .before .before .before .before .before .before .before .before .before .before .before .before .before .before .before .args .pitch-present) (c .before .before .before .before .before .before .before .before .before .before .before .before .before .before .before .before .before .before .args .pitch-index) (c .before .before .before .before .before .before .before .before .before .before .before .before .before .before .before .before .before .before .args .pitch-active) (c .before .before .before .before .before .before .before .before .before .before .before .before .before .before .before .before .before .before .args .nbits) (c .before .before .before .before .before .before .before .before .before .before .before .before .before .before .before .before .before .before .args .samples .now))
-    _ _ _ _ _ _ _ (c .before .before .before .before .before .before .before .before .before .before .before .before .read-registers .ensures) (c .before .before .before .before .before .before .before .before .before .before .wide .ensures .0) (c .before .before .before .before .before .before .before .before .before .read-side .ensures) (c .before .before .before .before .before .frame-in-place .ensures) _ _ _
-    (c .write-if-done .ensures .0) (c .write-if-done .ensures .1) (c .write-if-done .ensures .2)
+    let k = c .before .before in
+    let f = k .before .before .before .before in
+    let s = f .before .before .before .before in
+    let r = s .before .before .before in
+    let a = r .before .before .before .before .before .before .args in
+    frame-left (arrays (a .numbers .now) (a .kept .now) (a .inputs .now) (a .outputs .now)) (given (a .numerators .now) (a .denominators .now) (a .pitch-present) (a .pitch-index) (a .pitch-active) (a .nbits) (a .samples .now))
+    _ _ _ _ _ _ _ (r .read-registers .ensures) (s .before .wide .ensures .0) (s .read-side .ensures) (f .frame-in-place .ensures) _ _ _
+    (c .write-numbers-if-done .ensures .0) (c .write-numbers-if-done .ensures .1) (k .write-kept-if-done .ensures)
 
 pub nabiteke-decoder-frame--spec : {M : Type 1} → statement M
 nabiteke-decoder-frame--spec =
@@ -46,6 +56,7 @@ nabiteke-decoder-frame--spec =
     wide-requires
     read-side-requires
     frame-in-place-requires
-    write-if-done-requires
+    write-kept-if-done-requires
+    write-numbers-if-done-requires
     same-length
     returns)

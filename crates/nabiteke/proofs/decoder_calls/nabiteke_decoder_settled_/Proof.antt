@@ -1,6 +1,6 @@
 -- `nabiteke_decoder_settled_` reads one flag.
 use borrow.Author.Needs.{needs}
-use Rattle.nabiteke.specs.DecoderArrays.{registersFrom}
+use Rattle.c_arrays.specs.Registers.{registersFrom}
 use Rattle.nabiteke.specs.DecoderCalls.{settledCall}
 use Rattle.nabiteke.proofs.decoder_calls.nabiteke_decoder_settled_.Statement.{statement}
 use Rattle.nabiteke.proofs.decoder_calls.nabiteke_decoder_settled_.Tie as tie

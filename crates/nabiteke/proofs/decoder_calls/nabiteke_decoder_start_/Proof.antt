@@ -8,21 +8,24 @@ use Rattle.nabiteke.proofs.decoder_calls.nabiteke_decoder_start_.Tie as
 start-requires : tie.Need-start-requires
 start-requires c κs = search needs
 
-write-registers-requires : tie.Need-write-registers-requires
-write-registers-requires c κs = started-fits (c .before .before .before .before .before .before .before .args .rate) (c .before .before .before .before .before .before .before .args .duration) _ (c .before .before .before .before .before .before .start .ensures)
+write-numbers-requires : tie.Need-write-numbers-requires
+write-numbers-requires c κs =
+    let s = c .before .before .before .before .before in
+    started-fits (s .before .args .rate) (s .before .args .duration) _ (s .start .ensures)
+
+write-kept-requires : tie.Need-write-kept-requires
+write-kept-requires c κs = search needs
 
 answer-word-requires : tie.Need-answer-word-requires
 answer-word-requires c κs = search needs
 
 returns : tie.Need-returns
 unfolding startCall
-returns c = rw (c .answer-word .ensures, c .before .write-registers .ensures .0, c .before .write-registers .ensures .1, c .before .before .before .before .before .before .before .before .start .ensures)
+returns c =
+    let n = c .before .before .before in
+    rw (c .answer-word .ensures, n .write-numbers .ensures, c .before .write-kept .ensures, n .before .before .before .before .before .before .start .ensures)
 
 pub nabiteke-decoder-start--spec : {M : Type 1} → statement M
 nabiteke-decoder-start--spec =
     tie.close
-    (tie.spec
-    start-requires
-    write-registers-requires
-    answer-word-requires
-    returns)
+    (tie.spec start-requires write-numbers-requires write-kept-requires answer-word-requires returns)

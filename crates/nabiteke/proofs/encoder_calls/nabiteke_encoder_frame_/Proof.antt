@@ -1,5 +1,5 @@
 -- `nabiteke_encoder_frame_` writes the record, and the next state where the frame is done.
-use Rattle.nabiteke.specs.EncoderArrays.{arrays}
+use Rattle.c_arrays.specs.EncoderState.{arrays}
 use Rattle.nabiteke.specs.EncoderCalls.{given}
 use Rattle.nabiteke.proofs.EncoderCalls.{frame-fits, frame-left}
 use borrow.Author.Needs.{needs}
@@ -18,18 +18,27 @@ frame-requires c κs = search needs
 write-record-requires : tie.Need-write-record-requires
 write-record-requires c κs = search needs
 
-write-encoder-if-done-requires : tie.Need-write-encoder-if-done-requires
-write-encoder-if-done-requires c κs =
-    frame-fits (arrays (c .before .before .before .before .before .before .before .before .before .before .before .before .before .before .before .before .before .before .args .numbers .now) (c .before .before .before .before .before .before .before .before .before .before .before .before .before .before .before .before .before .before .args .memories .now) (c .before .before .before .before .before .before .before .before .before .before .before .before .before .before .before .before .before .before .args .x-s .now) (c .before .before .before .before .before .before .before .before .before .before .before .before .before .before .before .before .before .before .args .x-12p8 .now) (c .before .before .before .before .before .before .before .before .before .before .before .before .before .before .before .before .before .before .args .x-6p4 .now))
-    (given (c .before .before .before .before .before .before .before .before .before .before .before .before .before .before .before .before .before .before .args .resampling .now) (c .before .before .before .before .before .before .before .before .before .before .before .before .before .before .before .before .before .before .args .correlation .now) (c .before .before .before .before .before .before .before .before .before .before .before .before .before .before .before .before .before .before .args .signal .now) (c .before .before .before .before .before .before .before .before .before .before .before .before .before .before .before .before .before .before .args .samples .now) (c .before .before .before .before .before .before .before .before .before .before .before .before .before .before .before .before .before .before .args .nbits) (c .before .before .before .before .before .before .before .before .before .before .before .before .before .before .before .before .before .before .args .near-nyquist))
-    _ _ _ (c .before .before .before .before .before .before .before .before .before .read-encoder .ensures) (c .before .before .before .before .before .before .before .before .is-yes .ensures) (c .before .before .before .before .before .before .before .frame .ensures)
+write-floats-if-done-requires : tie.Need-write-floats-if-done-requires
+write-floats-if-done-requires c κs = search needs
+
+write-numbers-if-done-requires : tie.Need-write-numbers-if-done-requires
+write-numbers-if-done-requires c κs =
+    let f = c .before .before .before .before .before .before .before .before in
+    let e = f .before .before in
+    let a = e .before .before .before .before .before .before .before .before .before .args in
+    frame-fits (arrays (a .numbers .now) (a .memories .now) (a .x-s .now) (a .x-12p8 .now) (a .x-6p4 .now)) (given (a .resampling .now) (a .correlation .now) (a .signal .now) (a .samples .now) (a .nbits) (a .near-nyquist))
+    _ _ _ (e .read-encoder .ensures) (f .before .is-yes .ensures) (f .frame .ensures)
 
 returns : tie.Need-returns
 returns c =
-    frame-left (arrays (c .before .before .before .before .before .before .before .before .before .before .before .before .before .before .before .before .before .before .before .args .numbers .now) (c .before .before .before .before .before .before .before .before .before .before .before .before .before .before .before .before .before .before .before .args .memories .now) (c .before .before .before .before .before .before .before .before .before .before .before .before .before .before .before .before .before .before .before .args .x-s .now) (c .before .before .before .before .before .before .before .before .before .before .before .before .before .before .before .before .before .before .before .args .x-12p8 .now) (c .before .before .before .before .before .before .before .before .before .before .before .before .before .before .before .before .before .before .before .args .x-6p4 .now))
-    (given (c .before .before .before .before .before .before .before .before .before .before .before .before .before .before .before .before .before .before .before .args .resampling .now) (c .before .before .before .before .before .before .before .before .before .before .before .before .before .before .before .before .before .before .before .args .correlation .now) (c .before .before .before .before .before .before .before .before .before .before .before .before .before .before .before .before .before .before .before .args .signal .now) (c .before .before .before .before .before .before .before .before .before .before .before .before .before .before .before .before .before .before .before .args .samples .now) (c .before .before .before .before .before .before .before .before .before .before .before .before .before .before .before .before .before .before .before .args .nbits) (c .before .before .before .before .before .before .before .before .before .before .before .before .before .before .before .before .before .before .before .args .near-nyquist))
-    _ _ _ (c .before .before .before .before .before .before .before .before .before .before .read-encoder .ensures) (c .before .before .before .before .before .before .before .before .before .is-yes .ensures) (c .before .before .before .before .before .before .before .before .frame .ensures) _ _ _
-    (c .write-encoder-if-done .ensures .0) (c .write-encoder-if-done .ensures .1) (c .before .before .before .before .before .before .write-record .ensures)
+    let l = c .before .before in
+    let w = l .before .before .before .before .before in
+    let f = w .before .before in
+    let e = f .before .before in
+    let a = e .before .before .before .before .before .before .before .before .before .args in
+    frame-left (arrays (a .numbers .now) (a .memories .now) (a .x-s .now) (a .x-12p8 .now) (a .x-6p4 .now)) (given (a .resampling .now) (a .correlation .now) (a .signal .now) (a .samples .now) (a .nbits) (a .near-nyquist))
+    _ _ _ (e .read-encoder .ensures) (f .before .is-yes .ensures) (f .frame .ensures) _ _ _ _ _ _ _
+    (c .write-numbers-if-done .ensures .0) (c .write-numbers-if-done .ensures .1) (l .write-floats-if-done .ensures) (w .write-record .ensures)
 
 pub nabiteke-encoder-frame--spec : {M : Type 1} → statement M
 nabiteke-encoder-frame--spec =
@@ -39,5 +48,6 @@ nabiteke-encoder-frame--spec =
     is-yes-requires
     frame-requires
     write-record-requires
-    write-encoder-if-done-requires
+    write-floats-if-done-requires
+    write-numbers-if-done-requires
     returns)

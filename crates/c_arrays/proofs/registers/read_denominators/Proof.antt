@@ -1,0 +1,31 @@
+-- `read_denominators` puts a part of the kept coefficients over all of an array.
+use mathlib.Core.Path.{_∙_}
+use native.Mathlib.Omega.{arith}
+use lib.ListN.{length-take, length-drop}
+use borrow.Author.Needs.{needs}
+use Rattle.c_arrays.proofs.Puts.{put-whole}
+use Rattle.c_arrays.proofs.registers.read_denominators.Statement.{statement}
+use Rattle.c_arrays.proofs.registers.read_denominators.Tie as tie
+
+slice-aggregate-put : tie.Need-slice-aggregate-put
+slice-aggregate-put c = search needs
+
+sub-put : tie.Need-sub-put
+sub-put c = search needs
+
+part-put-start : tie.Need-part-put-start
+part-put-start c = search needs
+
+part-put-end : tie.Need-part-put-end
+part-put-end c = search needs
+
+put-requires : tie.Need-put-requires
+put-requires c κs = search needs
+
+returns : tie.Need-returns
+returns c = c .before .put .ensures ∙ put-whole _ _ (simp (length-take, length-drop) (omega arith))
+
+pub read-denominators-spec : {M : Type 1} → statement M
+read-denominators-spec =
+    tie.close
+    (tie.spec slice-aggregate-put sub-put part-put-start part-put-end put-requires returns)

@@ -1,0 +1,21 @@
+-- A frame's pitch as the caller's numbers: what a decoder is given, and what an encoder gives.
+use Prim.Native.Nat.{ℕ}
+use mathlib.Core.Bool.{cond}
+use mathlib.Core.List.{List, [], _∷_}
+use Rattle.lag.specs.declared.pitch.PitchRecord.{PitchRecord}
+use Rattle.lag.specs.declared.pitch.PitchRecord.the-variants.{Absent, Present}
+use Rattle.control.specs.declared.judge.SideInfo.{SideInfo}
+use Rattle.c_arrays.specs.Words.{isYes, asFlag}
+
+-- a frame's pitch: where it is not present, the index and the active mark are not read
+abbrev pub pitchFrom : ℕ → ℕ → ℕ → PitchRecord
+pitchFrom present index active = cond (isYes present) (Present (record { index = index; active = isYes active })) Absent
+
+-- and with it the frame's bits
+unfoldable pub sideFrom : ℕ → ℕ → ℕ → ℕ → SideInfo
+sideFrom present index active nbits = record { pitch = pitchFrom present index active; nbits = nbits }
+
+-- a record: present, index, active, bits
+abbrev pub recordOf : PitchRecord → ℕ → List ℕ
+recordOf Absent bits = 0 ∷ 0 ∷ 0 ∷ bits ∷ []
+recordOf (Present p) bits = 1 ∷ p .index ∷ asFlag (p .active) ∷ bits ∷ []
