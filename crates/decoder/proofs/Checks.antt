@@ -8,18 +8,16 @@ use lib.Ieee.{Float}
 use lib.ListN.{length}
 use Rattle.rates.specs.declared.config.Lc3Config.{Lc3Config}
 use Rattle.rates.specs.declared.config.Configured.the-variants.{Config}
-use Rattle.lag.specs.Gain.{gainOf, bitsOf}
 use Rattle.lag.specs.declared.gain.Gain.{Gain}
 use Rattle.lag.specs.declared.rescale.Lag.{Lag}
 use Rattle.coefficients.specs.Coefficients.{gainRow, tapsOf, newTaps}
 use Rattle.coefficients.specs.Required.{Lent}
 use Rattle.filter.specs.Required.{Inside}
 use Rattle.control.specs.Pitch.{isActive}
-use Rattle.control.specs.State.{lagFits, fitConfig}
+use Rattle.control.specs.State.{lagFits}
 use Rattle.control.specs.Judge.{planOf}
 use Rattle.control.specs.Next.{keptTaps}
 use Rattle.control.specs.declared.registers.Registers.{Registers}
-use Rattle.control.specs.declared.judge.SideInfo.{SideInfo}
 use Rattle.control.specs.declared.judge.Plan.{Plan}
 use Rattle.control.proofs.Sizes.{FromTable, from-table, Sized, sized}
 use Rattle.control.proofs.Fit.{Fits, fits, inside-of-lag, lag-for-fits, lag-for-quarter, readable, gain-row}

@@ -1,7 +1,7 @@
 -- What a block start that fits has: a block inside the history, with samples before the newest one's end; and the block after it fits too.
 use Prim.Native.Nat.{ℕ, zero, suc, _+_, _*_, _/_, _%_, _≤_, _<_}
 use mathlib.Core.Path.{_≡_, refl}
-use mathlib.Core.Bool.{Bool, true, false, cond, _&&_}
+use mathlib.Core.Bool.{Bool, true, false, cond}
 use native.Mathlib.Nat.{suc-mul, mul-le-mul-right, lt-of-mul-lt-mul-right, div-add-mod', add-mod-right, zero-mod}
 use native.Mathlib.Omega.{arith}
 use borrow.Author.Tests.{lt-ltb, ltb-true, eqb-true, eqb-false}

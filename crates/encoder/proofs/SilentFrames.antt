@@ -30,7 +30,7 @@ use Rattle.encoder.proofs.Judged.{Judged, judged-facts}
 use Rattle.rates.proofs.Sizes.{sized}
 use Rattle.search.proofs.Silence.{silence}
 use Rattle.signals.proofs.Silent.{Silent, silent-zeros, silent-laid}
-use Rattle.signals.proofs.SilentSignals.{SilentSignals, Resampler, plain, rest, silent-signals}
+use Rattle.signals.proofs.SilentSignals.{Resampler, plain, rest, silent-signals}
 
 scale-plain : (hz : ℕ) (row : Rate) → rowOf hz ≡ Row row → plain (scale (row .p)) ≡ true
 unfolding round ofInt

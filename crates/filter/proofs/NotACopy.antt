@@ -2,10 +2,8 @@
 use mathlib.Core.Path.{_≡_, refl}
 use mathlib.Core.Bool.{true, false}
 use lib.IntN.{pos}
-use lib.Ieee.{Float, nan, inf, fin, add, sub, mul, div, ofInt, round, neg}
+use lib.Ieee.{Float, nan, inf, fin, add, sub, mul, round, neg}
 use Rattle.floats.specs.Single.{_⊖_, _⊗_, 0·0}
-use Rattle.filter.specs.Fade.{factor}
-use Rattle.filter.specs.declared.fade.Direction.the-variants.{In}
 
 -- where F is -1.0 an input of -0.0 then gives 0.0
 pub minus-zero-tells : fin true 0 (pos 0) ⊖ fin true 1 (pos 0) ⊗ 0·0 ≡ 0·0

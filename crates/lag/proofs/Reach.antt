@@ -1,5 +1,5 @@
 -- How far back a filter can read: never outside the used history, for every rate, duration, lag index and tap.
-use Prim.Native.Nat.{ℕ, _+_, _-_, _*_, _/_, _≤_, _<_}
+use Prim.Native.Nat.{ℕ, _+_, _-_, _/_, _≤_}
 use mathlib.Core.Path.{_≡_}
 use native.Mathlib.Omega.{arith}
 use Rattle.rates.specs.Table.{rowOf}

@@ -2,17 +2,15 @@
 use Prim.Native.Nat.{ℕ, suc, _+_, _-_, _≤_, _<_}
 use mathlib.Core.Path.{_≡_, refl, sym, ap, _∙_}
 use mathlib.Core.Bool.{Bool, true, false, cond}
-use mathlib.Core.List.{List, [], _∷_, _++_, append-assoc, append-nil}
+use mathlib.Core.List.{List, [], _∷_, _++_, append-assoc}
 use native.Mathlib.Nat.{zero-add, sub-zero}
-use native.Mathlib.Numerals.{add-one}
 use native.Mathlib.Omega.{arith}
 use borrow.Author.Tests.{lt-ltb, le-ltb}
 use lib.Dec.{eqb, ltb}
-use lib.ListN.{length, take, drop, getD}
-use lib.Seq.{take-suc, drop-cons}
+use lib.ListN.{length, take, drop}
 use Rattle.lines.specs.Fields.{byteAt}
 use Rattle.lines.specs.Listings.{Rules}
-use Rattle.lines.specs.Machine.{emptied, heldLine, heldStep, heldAfter, stateStep, emitted, stateAfter, text, taken}
+use Rattle.lines.specs.Machine.{heldStep, heldAfter, stateStep, emitted, stateAfter, text, taken}
 use Rattle.lines.specs.declared.held.Held.{Held}
 
 pub held-append : (h : Held) (a b : List ℕ) → heldAfter h (a ++ b) ≡ heldAfter (heldAfter h a) b

@@ -1,6 +1,6 @@
 -- Text that is written piece by piece.
 use Prim.Native.Nat.{ℕ, suc, _+_, _≤_, _<_}
-use mathlib.Core.Path.{_≡_, refl, sym, ap, _∙_}
+use mathlib.Core.Path.{_≡_, ap, _∙_}
 use mathlib.Core.List.{List, [], _∷_, _++_}
 use borrow.Author.Tests.{le-leb, lt-leb}
 use native.Mathlib.Nat.{add-zero, add-suc, suc-add, add-assoc}

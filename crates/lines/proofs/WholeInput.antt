@@ -8,7 +8,7 @@ use native.Mathlib.Omega.{arith}
 use native.Mathlib.Numerals.{add-one}
 use borrow.Author.Tests.{ltb-true, ltb-false, leb-true, eq-eqb, ne-eqb}
 use lib.Dec.{eqb, ltb, leb}
-use lib.ListN.{length, take, drop, set, length-append, length-set, length-take, length-drop, take-append-drop, drop-of-length-le}
+use lib.ListN.{length, take, drop, set, length-append, length-set, length-take, length-drop, take-append-drop}
 use lib.Seq.{take-suc-set, take-all, take-append-le, take-take}
 use Rattle.lines.specs.Listings.{Rules, Decided, lastLine, linesFrom, rowsFrom, listingOf}
 use Rattle.lines.specs.Machine.{emptied, nothingHeld, heldLine, heldStep, heldAfter, stateStep, emitted, stateAfter, text, taken, lastText}

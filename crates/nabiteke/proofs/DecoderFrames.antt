@@ -19,7 +19,7 @@ use Rattle.rates.specs.declared.table.Rate.{Rate}
 use Rattle.lag.specs.declared.gain.Gain.{Gain}
 use Rattle.lag.specs.declared.rescale.Lag.{Lag}
 use Rattle.coefficients.specs.Coefficients.{gainValue, gainRow, rowOfSet, scaled, tapsOf, newTaps}
-use Rattle.control.specs.State.{lagFits, fit, fitWith, fitConfig}
+use Rattle.control.specs.State.{lagFits, fit, fitWith}
 use Rattle.control.specs.Judge.{planOf, judged}
 use Rattle.control.specs.Next.{nextRegisters}
 use Rattle.control.specs.declared.registers.Registers.{Registers}
@@ -28,8 +28,8 @@ use Rattle.control.proofs.Fit.{inside-of-lag}
 use Rattle.control.proofs.Judging as judging
 use Rattle.control.proofs.Judging.{declined, passed, verdict}
 use Rattle.rings.specs.Ring.{nextBlock}
-use Rattle.decoder.specs.State.{blockFits, withBlock, fitRing, fitDecoder}
-use Rattle.decoder.specs.Frame.{framedAs, done, tapsFor, accepted, framedWith, framed}
+use Rattle.decoder.specs.State.{blockFits, withBlock, fitDecoder}
+use Rattle.decoder.specs.Frame.{framedAs, done, accepted, framedWith, framed}
 use Rattle.decoder.specs.Required.{Judged}
 use Rattle.decoder.specs.declared.state.Decoder.{Decoder}
 use Rattle.decoder.specs.declared.frame.Framed.{Framed}

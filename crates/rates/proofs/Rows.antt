@@ -8,7 +8,7 @@ use lib.Dec.{T, eqb, leb, leb→le}
 use Rattle.rates.specs.Table.{rates, find, rowOf}
 use Rattle.rates.specs.declared.table.Rate.{Rate}
 use Rattle.rates.specs.declared.table.FoundRate.{FoundRate}
-use Rattle.rates.specs.declared.table.FoundRate.the-variants.{Row, Unknown}
+use Rattle.rates.specs.declared.table.FoundRate.the-variants.{Row}
 
 -- the test passes at each row
 abbrev pub every : (Rate → Bool) → List Rate → Bool

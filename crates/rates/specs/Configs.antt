@@ -9,7 +9,6 @@ use Rattle.rates.specs.declared.duration.FrameDuration.{FrameDuration}
 use Rattle.rates.specs.declared.duration.FrameDuration.the-variants.{TenMs, SevenPointFiveMs}
 use Rattle.rates.specs.declared.duration.FoundDuration.{FoundDuration}
 use Rattle.rates.specs.declared.duration.FoundDuration.the-variants.{Duration}
-use Rattle.rates.specs.declared.config.Lc3Config.{Lc3Config}
 use Rattle.rates.specs.declared.config.Configured.{Configured}
 use Rattle.rates.specs.declared.config.Configured.the-variants.{Config, Refused}
 

@@ -7,8 +7,8 @@ use native.Mathlib.Nat.{sub-zero}
 use native.Mathlib.Omega.{arith}
 use borrow.Author.Tests.{eqb-true}
 use lib.Dec.{eqb}
-use lib.ListN.{length, take, drop, length-append, length-take, length-drop}
-use lib.Seq.{take-at, drop-at, take-add, drop-drop, drop-length, drop-append-le, drop-append-add, length-take-le}
+use lib.ListN.{length, take, drop, length-take, length-drop}
+use lib.Seq.{drop-drop, drop-append-le, drop-append-add, length-take-le}
 use lib.Ieee.{Float}
 use Rattle.slices.specs.Slices.{stored, placed}
 use Rattle.rings.specs.Ring.{straight, nextBlock, newestEnd}

@@ -1,23 +1,22 @@
 -- Laws of eight entries at once: what they set, what they leave, and that eight sums side by side are eight sums.
-use Prim.Native.Nat.{ℕ, zero, suc, _+_, _-_, _≤_, _<_}
+use Prim.Native.Nat.{ℕ, zero, _+_, _-_, _≤_, _<_}
 use mathlib.Core.Path.{_≡_, refl, sym, _∙_, ap, subst}
 use mathlib.Core.Bool.{Bool, true, false}
 use mathlib.Core.List.{List}
 use native.Mathlib.Omega.{arith}
 use borrow.Author.Tests.{ltb-true, ltb-false}
 use lib.Dec.{ltb}
-use lib.Ieee.{Float, nan}
+use lib.Ieee.{Float}
 use lib.ListN.{length, take, drop, length-take, length-drop}
-use lib.Seq.{getD-set-same, getD-set-other, getD-take, getD-drop}
-use Rattle.floats.specs.Single.{_⊕_, _⊗_, 0·0, at}
-use Rattle.lanes.specs.Lanes.{Lane, l0, l1, l2, l3, l4, l5, l6, l7, place, lane, added, fromZero, threeCorrelated, listed}
+use lib.Seq.{getD-take, getD-drop}
+use Rattle.floats.specs.Single.{at}
+use Rattle.lanes.specs.Lanes.{Lane, place, lane, added, fromZero, threeCorrelated, listed}
 use Rattle.lanes.proofs.EachLane.{from-zero-added, each-place, lane-at, placed-eight}
 use Rattle.lanes.specs.Sums.{productSum, window}
 use Rattle.slices.specs.Written.{written}
 use Rattle.search.specs.Blocks.{eight}
 use Rattle.slices.proofs.Written.{length-written, at-written, at-written-in, at-written-below, written-same}
 use Rattle.lanes.proofs.Sums.{sum-added}
-use Rattle.lanes.specs.declared.Lanes.{Lanes}
 use Rattle.lanes.specs.declared.Three.{Three}
 use Rattle.lanes.proofs.ThreeSums.{three-summed}
 use Rattle.slices.specs.Slices.{placed}

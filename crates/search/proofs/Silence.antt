@@ -1,19 +1,18 @@
 -- From silence the pitch search finds lag 17, and no pitch.
 use Prim.Native.Nat.{ℕ, zero, suc, _+_, _-_, _*_, _≤_, _<_}
-use mathlib.Core.Path.{_≡_, refl, _∙_}
+use mathlib.Core.Path.{_≡_, refl}
 use mathlib.Core.Bool.{Bool, true, false}
 use mathlib.Core.List.{List}
 use native.Mathlib.Nat.{mul-zero}
 use native.Mathlib.Omega.{arith}
 use lib.IntN.{pos}
 use lib.ListN.{length}
-use lib.Ieee.{Float, nan, inf, fin, binary32, up, down, unlike, lt, add, mul, div, round}
+use lib.Ieee.{Float, nan, inf, fin, up, down, unlike, lt, add, mul, div, round}
 use lib.Ieee.Fits.{down-pos}
-use lib.Ieee.Scale.{round-same}
 use Rattle.floats.specs.Single.{_⊗_, 0·0, at}
 use Rattle.root.specs.SquareRoot.{rootOf}
 use Rattle.lanes.specs.Sums.{productSum, window}
-use Rattle.search.specs.Pitch.{correlation, energy, correlations, weight, weighted, searched, lag1, lag2, normalised, chosen, detected}
+use Rattle.search.specs.Pitch.{correlation, energy, correlations, weight, weighted, lag1, lag2, normalised, chosen, detected}
 use Rattle.search.proofs.Listed.{listOf-at}
 use Rattle.search.proofs.Pitches.{weighted-length, stays-first}
 use Rattle.lanes.proofs.Times.{round-zero}

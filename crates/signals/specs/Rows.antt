@@ -5,7 +5,7 @@ use mathlib.Core.List.{List}
 use mathlib.Core.Path.{_≡_}
 use lib.Ieee.{Float}
 use lib.ListN.{length}
-use Rattle.floats.specs.Single.{_⊕_, _⊗_, 0·0, at}
+use Rattle.floats.specs.Single.{0·0, at}
 use Rattle.lanes.specs.Lanes.{all, listed, rowAdded}
 use Rattle.signals.specs.Resample.{used, entry}
 use Rattle.lanes.specs.declared.Lanes.{Lanes}

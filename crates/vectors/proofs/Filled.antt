@@ -1,6 +1,6 @@
 -- A list that is filled from its start on.
 use Prim.Native.Nat.{ℕ, zero, suc, _<_, _+_}
-use mathlib.Core.Path.{_≡_, refl, _∙_}
+use mathlib.Core.Path.{_≡_, refl}
 use mathlib.Core.List.{List, append-assoc}
 use native.Mathlib.Numerals.{add-one}
 use native.Mathlib.Omega.{arith}

@@ -1,7 +1,7 @@
 -- `is_finite`: a number is what lies strictly between the two infinities.
 use mathlib.Core.Path.{_≡_, refl, sym}
-use mathlib.Core.Bool.{Bool, true, false, true≢false}
-use lib.Ieee.{Float, nan, inf, fin, lt, neg, div, round, ofBits}
+use mathlib.Core.Bool.{true, false, true≢false}
+use lib.Ieee.{Float, nan, inf, fin, lt, neg, div, ofBits}
 use Rattle.floats.specs.Single.{finite}
 use Rattle.floats.proofs.is_finite.Statement.{statement}
 use Rattle.floats.proofs.is_finite.Tie as tie

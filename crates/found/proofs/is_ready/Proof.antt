@@ -1,5 +1,4 @@
 -- `is_ready` makes the definition's tests one after the other.
-use borrow.Author.Needs.{needs}
 use borrow.Author.Tests.{not-true, not-false, eq-eqb, ne-eqb, le-leb, lt-leb}
 use Rattle.found.specs.Found.{ready}
 use Rattle.found.proofs.is_ready.Statement.{statement}

@@ -1,13 +1,12 @@
 -- `pump` goes on until all of its input is taken: each turn takes at least a byte.
-use Prim.Native.Nat.{ℕ, _+_, _-_, _≤_, _<_}
-use mathlib.Core.Path.{_≡_, refl, sym, _∙_}
+use Prim.Native.Nat.{ℕ, _+_, _-_, _≤_}
+use mathlib.Core.Path.{_≡_, sym, _∙_}
 use mathlib.Core.Bool.{true≢false}
 use mathlib.Core.List.{List}
 use native.Mathlib.Omega.{arith}
 use borrow.Author.Needs.{needs}
 use lib.ListN.{length, take, drop, length-drop}
 use lib.Seq.{length-take-le, take-add, take-take, take-all}
-use Rattle.lines.proofs.Stores.{written-length}
 use Rattle.lines.specs.Machine.{stateAfter, heldAfter}
 use Rattle.listing.specs.Machine.{after}
 use Rattle.listing.specs.declared.machine.Listing.{Listing}

@@ -1,7 +1,6 @@
 -- `at_12p8` puts the past in, and where the set and the step are usable the frame after it.
 use mathlib.Core.Path.{_≡_, sym, _∙_}
 use mathlib.Core.Bool.{true}
-use native.Mathlib.Omega.{arith}
 use borrow.Author.Needs.{needs}
 use borrow.Author.Tests.{not-true, not-false}
 use Rattle.rates.proofs.Sizes.{Sized, sized}
@@ -9,7 +8,7 @@ use Rattle.lanes.specs.Sums.{window}
 use Rattle.slices.specs.Written.{written}
 use Rattle.signals.specs.Signals.{usable, made12p8, left12p8}
 use Rattle.signals.proofs.Fronts.{front}
-use Rattle.signals.proofs.Steps.{Usable, usable-facts}
+use Rattle.signals.proofs.Steps.{usable-facts}
 use Rattle.signals.proofs.at_12p8.Statement.{statement}
 use Rattle.signals.proofs.at_12p8.Tie as tie
 

@@ -1,5 +1,5 @@
 -- `is_usable` makes the definition's tests one after the other.
-use Prim.Native.Nat.{_*_, _/_, _≤_}
+use Prim.Native.Nat.{_/_}
 use native.Mathlib.Nat.{div-le-of-le-mul, mul-le-mul}
 use native.Mathlib.Omega.{arith}
 use borrow.Author.Needs.{needs}

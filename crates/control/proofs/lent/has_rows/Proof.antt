@@ -5,7 +5,6 @@ use mathlib.Core.Bool.{Bool, true, false}
 use native.Mathlib.Omega.{arith}
 use borrow.Author.Tests.{eq-eqb, ne-eqb, eqb-true, eqb-false}
 use lib.Dec.{eqb}
-use borrow.Author.Needs.{needs}
 use Rattle.control.proofs.lent.has_rows.Statement.{statement}
 use Rattle.control.proofs.lent.has_rows.Tie as tie
 

@@ -1,5 +1,5 @@
 -- `frame_in_place` goes by the verdict.
-use mathlib.Core.Path.{_≡_, sym, _∙_}
+use mathlib.Core.Path.{sym, _∙_}
 use Rattle.decoder.specs.Frame.{framed}
 use borrow.Author.Needs.{needs}
 use Rattle.decoder.proofs.frame.frame_in_place.Statement.{statement}

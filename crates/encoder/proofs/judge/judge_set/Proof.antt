@@ -5,7 +5,7 @@ use mathlib.Core.Bool.{true}
 use borrow.Author.Tests.{not-true, not-false}
 use Rattle.rates.specs.declared.config.Configured.the-variants.{Config}
 use Rattle.encoder.specs.State.{fitConfig}
-use Rattle.encoder.specs.Judge.{counted, finiteSet}
+use Rattle.encoder.specs.Judge.{counted}
 use Rattle.encoder.proofs.judge.judge_set.Statement.{statement}
 use Rattle.encoder.proofs.judge.judge_set.Tie as tie
 

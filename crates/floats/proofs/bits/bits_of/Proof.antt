@@ -2,7 +2,7 @@
 use mathlib.Core.Path.{_≡_, sym, subst, _∙_}
 use mathlib.Core.Bool.{false, not, true≢false}
 use lib.Dec.{T}
-use lib.Ieee.{Float, nan, inf, fin, binary32, toBits, isNan, ne}
+use lib.Ieee.{Float, nan, inf, fin, toBits, isNan, ne}
 use lib.Ieee.Compare.{differs-from-itself, nan-differs}
 use borrow.Author.Needs.{needs}
 use Rattle.floats.proofs.bits.bits_of.Statement.{statement}

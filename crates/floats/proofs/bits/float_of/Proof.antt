@@ -3,7 +3,7 @@ use Prim.Native.Nat.{_%_}
 use mathlib.Core.Path.{_≡_, refl, sym, _∙_}
 use mathlib.Core.Bool.{true, true≢false}
 use borrow.Author.Tests.{le-ltb, lt-ltb}
-use lib.Ieee.{Float, nan, inf, fin, binary32, ofBits, isNan, div, round}
+use lib.Ieee.{Float, nan, inf, fin, binary32, ofBits, isNan, div}
 use lib.Ieee.Bits.{nanBits-above, nanBits-is}
 use borrow.Author.Needs.{needs}
 use Rattle.floats.proofs.bits.float_of.Statement.{statement}

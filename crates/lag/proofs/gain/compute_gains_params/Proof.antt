@@ -1,5 +1,5 @@
 -- `compute_gains_params` goes by the same four thresholds as the definition.
-use borrow.Author.Tests.{lt-ltb, le-ltb, le-leb, lt-leb}
+use borrow.Author.Tests.{lt-ltb, le-ltb}
 use lib.Ieee.{round, ofBits}
 use Rattle.lag.specs.Gain.{gainOf}
 use borrow.Author.Needs.{needs}

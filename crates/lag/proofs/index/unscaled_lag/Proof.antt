@@ -1,5 +1,5 @@
 -- `unscaled_lag` goes by the same ranges as the definition.
-use borrow.Author.Tests.{lt-ltb, le-ltb, le-leb, lt-leb}
+use borrow.Author.Tests.{le-leb, lt-leb}
 use Rattle.lag.specs.Lag.{quarters}
 use borrow.Author.Needs.{needs}
 use Rattle.lag.proofs.index.unscaled_lag.Statement.{statement}

@@ -1,11 +1,11 @@
 -- `copy` stores one byte a turn, after those before it.
 use Prim.Native.Nat.{ℕ, _+_, _-_, _≤_, _<_}
-use mathlib.Core.Path.{_≡_, refl, ap, _∙_}
+use mathlib.Core.Path.{_≡_, ap, _∙_}
 use mathlib.Core.List.{List}
 use native.Mathlib.Numerals.{add-one}
 use native.Mathlib.Omega.{arith}
 use lib.ListN.{length, take, getD, set}
-use lib.Seq.{sets, take-suc, take-length, length-take-le, length-sets}
+use lib.Seq.{sets, take-suc, take-length, length-take-le}
 use borrow.Author.Needs.{needs}
 use Rattle.lines.proofs.Stores.{sets-append}
 use Rattle.lines.proofs.cell.copy.Statement.{statement}

@@ -3,7 +3,6 @@ use mathlib.Core.Path.{refl}
 use native.Mathlib.Numerals.{add-one}
 use native.Mathlib.Omega.{arith}
 use lib.ListN.{length-set}
-use Rattle.lines.specs.Texts.{Written}
 use Rattle.lines.proofs.Stores.{put-written, put-nothing}
 use borrow.Author.Needs.{needs}
 use Rattle.lines.proofs.cell.put_dash.Statement.{statement}

@@ -1,7 +1,6 @@
 -- `put_text` copies where the text fits.
 use mathlib.Core.Path.{refl}
 use native.Mathlib.Omega.{arith}
-use Rattle.lines.specs.Texts.{Written}
 use Rattle.lines.proofs.Stores.{put-written, put-nothing}
 use borrow.Author.Needs.{needs}
 use Rattle.lines.proofs.cell.put_text.Statement.{statement}

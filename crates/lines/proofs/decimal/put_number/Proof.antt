@@ -1,6 +1,5 @@
 -- `put_number` writes where 20 bytes are left, which any number of 64 bits fits.
 use native.Mathlib.Omega.{arith}
-use Rattle.lines.specs.Texts.{Written}
 use Rattle.lines.proofs.Decimals.{decimal-64}
 use Rattle.lines.proofs.Stores.{put-written, put-nothing}
 use borrow.Author.Needs.{needs}

@@ -1,5 +1,4 @@
 -- `start` writes the header, which fits, and holds nothing.
-use mathlib.Core.Path.{refl}
 use native.Mathlib.Omega.{arith}
 use Rattle.lines.proofs.Stores.{written}
 use borrow.Author.Needs.{needs}

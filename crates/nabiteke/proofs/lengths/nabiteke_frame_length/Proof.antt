@@ -1,5 +1,5 @@
 -- `nabiteke_frame_length` takes the length from the configuration, as the definition does.
-use mathlib.Core.Path.{_≡_, sym, _∙_}
+use mathlib.Core.Path.{sym, _∙_}
 use borrow.Author.Needs.{needs}
 use Rattle.nabiteke.proofs.lengths.nabiteke_frame_length.Statement.{statement}
 use Rattle.nabiteke.proofs.lengths.nabiteke_frame_length.Tie as tie

@@ -5,11 +5,9 @@ use native.Mathlib.Omega.{arith}
 use Rattle.rates.specs.Table.{rowOf}
 use Rattle.rates.specs.Durations.{durationOf}
 use Rattle.rates.proofs.Rows.{bound-at}
-use Rattle.rates.specs.declared.answer.Answer.the-variants.{UnknownRate, UnknownDuration}
 use Rattle.rates.specs.declared.table.Rate.{Rate}
 use Rattle.rates.specs.declared.table.FoundRate.{FoundRate}
 use Rattle.rates.specs.declared.duration.FoundDuration.{FoundDuration}
-use Rattle.rates.specs.declared.config.Configured.the-variants.{Config, Refused}
 use Rattle.rates.proofs.config.config.Statement.{statement}
 use Rattle.rates.proofs.config.config.Tie as tie
 

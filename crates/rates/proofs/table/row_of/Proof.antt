@@ -1,16 +1,15 @@
 -- `row_of` gives the first row of the rate: the rows passed so far have other rates.
 use Prim.Native.Nat.{ℕ, _≤_, _<_, _+_, _-_}
-use mathlib.Core.Path.{_≡_, refl, sym, _∙_}
-use mathlib.Core.List.{List, [], _∷_}
+use mathlib.Core.Path.{_≡_, sym, _∙_}
 use native.Mathlib.Numerals.{add-one}
 use native.Mathlib.Omega.{arith}
 use borrow.Author.Needs.{needs}
 use borrow.Author.Tests.{eq-eqb, ne-eqb}
-use lib.ListN.{drop, getD, length}
+use lib.ListN.{drop, getD}
 use lib.Seq.{drop-cons}
 use Rattle.rates.specs.Table.{rates, row, find, rowOf}
 use Rattle.rates.specs.declared.table.Rate.{Rate}
-use Rattle.rates.specs.declared.table.FoundRate.the-variants.{Row, Unknown}
+use Rattle.rates.specs.declared.table.FoundRate.the-variants.{Row}
 use Rattle.rates.proofs.table.row_of.Statement.{statement}
 use Rattle.rates.proofs.table.row_of.Tie as tie
 

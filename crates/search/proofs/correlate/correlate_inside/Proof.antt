@@ -1,5 +1,5 @@
 -- `correlate_inside` sums over the windows of all lags side by side, and turns them round.
-use Prim.Native.Nat.{ℕ, _+_, _-_, _/_, _≤_, _<_}
+use Prim.Native.Nat.{ℕ, _+_, _-_, _/_, _<_}
 use mathlib.Core.Path.{_≡_, sym, _∙_}
 use mathlib.Core.List.{List, _++_}
 use native.Mathlib.Nat.{div-add-mod', mod-lt}

@@ -1,5 +1,5 @@
 -- `resample` writes one output a turn, each where its sum was put.
-use Prim.Native.Nat.{_+_, _-_, _*_, _/_, _%_, _≤_, _<_}
+use Prim.Native.Nat.{_-_, _≤_}
 use mathlib.Core.Path.{_≡_}
 use native.Mathlib.Nat.{div-add-mod', mod-lt}
 use native.Mathlib.Numerals.{add-one}

@@ -6,7 +6,6 @@ use native.Mathlib.Omega.{arith}
 use borrow.Author.Needs.{needs}
 use lib.ListN.{length}
 use Rattle.floats.specs.Single.{at}
-use Rattle.signals.specs.Rows.{Spread}
 use Rattle.slices.proofs.Written.{length-written}
 use Rattle.signals.proofs.Rows.{row-more}
 use Rattle.signals.proofs.resample.spread.Statement.{statement}

@@ -1,8 +1,8 @@
 -- `put_floats`: each turn stores the float of the next four bytes.
-use Prim.Native.Nat.{ℕ, _-_, _≤_, _<_}
+use Prim.Native.Nat.{_-_, _≤_}
 use mathlib.Core.Path.{_≡_, refl, _∙_, ap}
 use native.Mathlib.Omega.{arith}
-use lib.ListN.{length, length-set, getD}
+use lib.ListN.{length, length-set}
 use Rattle.vectors.specs.Numbers.{floatAt}
 use Rattle.vectors.specs.Parts.{filled}
 use Rattle.vectors.proofs.Filled.{filled-more}

@@ -1,8 +1,8 @@
 -- `put_samples`: each turn stores the number of the next two bytes.
-use Prim.Native.Nat.{ℕ, _-_, _≤_, _<_}
+use Prim.Native.Nat.{_-_, _≤_}
 use mathlib.Core.Path.{_≡_, refl, _∙_}
 use native.Mathlib.Omega.{arith}
-use lib.ListN.{length, length-set, getD}
+use lib.ListN.{length, length-set}
 use Rattle.vectors.specs.Numbers.{signedAt}
 use Rattle.vectors.specs.Parts.{filled}
 use Rattle.vectors.proofs.Filled.{filled-more}

@@ -1,7 +1,6 @@
 -- `finish` writes the row of a line that is held, if there is one.
 use mathlib.Core.Path.{refl}
 use borrow.Author.Tests.{eq-eqb, ne-eqb}
-use Rattle.lines.specs.Texts.{Written}
 use Rattle.lines.specs.Machine.{lastText}
 use borrow.Author.Needs.{needs}
 use Rattle.listing.proofs.machine.Listing.finish.Statement.{statement}
