@@ -1,6 +1,6 @@
 -- Three times eight sums: one term more, and two.
 use Prim.Native.Nat.{ℕ, suc, _+_, _≤_}
-use mathlib.Core.Path.{_≡_, refl, _∙_}
+use mathlib.Core.Path.{_≡_, _∙_}
 use mathlib.Core.List.{List}
 use native.Mathlib.Numerals.{add-one}
 use native.Mathlib.Omega.{arith}
@@ -9,17 +9,11 @@ use lib.Ieee.{Float}
 use lib.ListN.{length}
 use Rattle.floats.specs.Single.{at}
 use Rattle.lanes.specs.Lanes.{plus, steps, fromZero, Summed, threeCorrelated}
-use Rattle.lanes.specs.declared.Lanes.{Lanes}
 use Rattle.lanes.specs.declared.Three.{Three}
 
 -- a step of all three
 abbrev pub stepped : Three → Float → List Float → ℕ → ℕ → ℕ → Three
 stepped s c x i j k = record { first = plus (s .first) c x i; second = plus (s .second) c x j; third = plus (s .third) c x k }
-
--- made one by one
-pub one-by-one : (p q r p′ q′ r′ : Lanes) → p ≡ p′ → q ≡ q′ → r ≡ r′ →
-    _≡_ {A = Three} (record { first = p; second = q; third = r }) (record { first = p′; second = q′; third = r′ })
-one-by-one p q r p′ q′ r′ e f g = rw (e, f, g)
 
 module _ (a x : List Float) (i j k n : ℕ) (s t : Three) (h : Summed a x i j k n s) where
   pub one-more : t ≡ stepped s (at a n) x (i + n) (j + n) (k + n) → Summed a x i j k (suc n) t

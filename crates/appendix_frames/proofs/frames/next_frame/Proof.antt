@@ -2,7 +2,6 @@
 use borrow.Author.Tests.{eq-eqb, ne-eqb, not-true, not-false}
 use mathlib.Core.Path.{refl}
 use mathlib.Core.List.{[]}
-use Rattle.appendix_frames.specs.Frames.{Encoded}
 use borrow.Author.Needs.{needs}
 use Rattle.appendix_frames.proofs.frames.next_frame.Statement.{statement}
 use Rattle.appendix_frames.proofs.frames.next_frame.Tie as tie

@@ -1,5 +1,4 @@
 -- `is_near` tests one side of the difference, and then the other.
-use borrow.Author.Needs.{needs}
 use Rattle.appendix_tally.proofs.near.is_near.Statement.{statement}
 use Rattle.appendix_tally.proofs.near.is_near.Tie as tie
 
