@@ -41,9 +41,10 @@ abbrev pub memoriesOf : Encoder → List Float
 memoriesOf e =
     e .memory .«mem_pitch» ∷ e .memory .«mem_nc» ∷ e .memory .«mem_mem_nc» ∷ e .h50 .«h50_minus1» ∷ e .h50 .«h50_minus2» ∷ []
 
--- and with them the histories
+-- memories, and the histories at the rate, at 12.8 and at 6.4 kHz
 abbrev pub Floats : Type 0
 Floats = List Float × List Float × List Float × List Float
 
+-- those of a state, as they are written
 abbrev pub floatsOf : Encoder → Floats
 floatsOf e = (memoriesOf e, e .«x_s», e .«x_12p8», e .«x_6p4»)

@@ -112,7 +112,7 @@ detected-range x len previous low high =
     let r = correlations x len in
     chosen-range (lag1 r) _ (lag2 r previous) _ (lag1-range r) (omega (arith, lag2-range r previous (correlations-length x len) low high))
 
--- energies whose product is rounded to 0.0 make a correlation above 0.0 infinite, and so a pitch present
+-- a correlation above 0.0 over a root of 0.0 is infinite
 pub zero-root-is-infinite : (r : Float) → lt 0·0 r ≡ true → overRoot r (found 0·0) ≡ inf false
 unfolding lt div
 zero-root-is-infinite nan h = absurd (true≢false (sym h))
