@@ -14,6 +14,7 @@ pub enum Answer {
     SampleOutOfRange,
     UnfitState,
     MalformedLine,
+    WrongFrameNumber,
 }
 
 // The number under which an answer is listed.
@@ -32,5 +33,6 @@ pub fn number(answer: Answer) -> u64
         Answer::SampleOutOfRange => 8,
         Answer::UnfitState => 9,
         Answer::MalformedLine => 10,
+        Answer::WrongFrameNumber => 11,
     }
 }

@@ -1,14 +1,14 @@
--- `answer_word`: every answer has a small number.
+-- `answer_word`: every answer has a number of two digits at most.
 use Prim.Native.Nat.{_≤_}
 use native.Mathlib.Omega.{arith}
 use borrow.Author.Needs.{needs}
 use Rattle.rates.specs.Answers.{numberOf}
 use Rattle.rates.specs.declared.answer.Answer.{Answer}
-use Rattle.rates.specs.declared.answer.Answer.the-variants.{Done, UnknownRate, UnknownDuration, CoefficientCount, CoefficientNotFinite, SampleCount, TooManyBits, IndexTooLarge, SampleOutOfRange, UnfitState, MalformedLine}
+use Rattle.rates.specs.declared.answer.Answer.the-variants.{Done, UnknownRate, UnknownDuration, CoefficientCount, CoefficientNotFinite, SampleCount, TooManyBits, IndexTooLarge, SampleOutOfRange, UnfitState, MalformedLine, WrongFrameNumber}
 use Rattle.c_arrays.proofs.words.answer_word.Statement.{statement}
 use Rattle.c_arrays.proofs.words.answer_word.Tie as tie
 
-small : (a : Answer) → numberOf a ≤ 10
+small : (a : Answer) → numberOf a ≤ 99
 small Done = omega arith
 small UnknownRate = omega arith
 small UnknownDuration = omega arith
@@ -20,6 +20,7 @@ small IndexTooLarge = omega arith
 small SampleOutOfRange = omega arith
 small UnfitState = omega arith
 small MalformedLine = omega arith
+small WrongFrameNumber = omega arith
 
 number-requires : tie.Need-number-requires
 number-requires c κs = search needs
