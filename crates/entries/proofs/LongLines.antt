@@ -1,0 +1,89 @@
+-- A line of 32 bytes or more is malformed: three numbers of nine digits, one of one digit and three tabs are 31.
+use Prim.Native.Nat.{ℕ, _+_, _≤_, _<_, min}
+use mathlib.Core.Path.{_≡_, refl, sym, _∙_}
+use mathlib.Core.Bool.{Bool, true, false, cond}
+use mathlib.Core.List.{List}
+use native.Mathlib.Omega.{arith}
+use borrow.Author.Tests.{ne-eqb, le-leb, lt-leb, leb-true, leb-false, ltb-true}
+use lib.Dec.{leb}
+use lib.ListN.{length, take, length-drop}
+use lib.Seq.{length-take-le, take-all}
+use Rattle.lines.specs.Fields.{tabAt, numberOf, fieldOf}
+use Rattle.lines.specs.declared.field.Field.{Field}
+use Rattle.lines.specs.declared.field.Number.{Number}
+use Rattle.entries.specs.declared.side.Side.{Side}
+use Rattle.entries.specs.declared.line.Line.{Line}
+use Rattle.entries.specs.Sides.{hasTab, beforeTab, afterTab, sideOf, marksRead, sideRead}
+use Rattle.entries.specs.Lines.{numbered, withNumber, lineRead}
+
+long-number : (most : ℕ) (s : List ℕ) → min most 9 < length s → numberOf most s ≡ Number.Malformed
+unfolding numberOf
+long-number most s h = rw (le-leb 1 (length s) (omega arith), lt-leb (length s) (min most 9) h)
+
+long-field : (s : List ℕ) → 9 < length s → fieldOf 9 s ≡ Field.Malformed
+long-field s h = rw (ne-eqb (length s) 1 (λ e. omega arith), long-number 9 s h)
+
+-- with a tab in more than a + 1 + b bytes, more than a stand before it or more than b after it
+parted : {A : Type 0} (a b : ℕ) (s : List ℕ) (x y : A) → a + 1 + b < length s →
+    (a < length (beforeTab s) → x ≡ y) → (b < length (afterTab s) → x ≡ y) → cond (hasTab s) x y ≡ y
+parted a b s x y h before after = go (hasTab s) refl
+  where
+    side : tabAt s < length s → (t : Bool) → leb (tabAt s) a ≡ t → x ≡ y
+    side k true p = after (simp length-drop (omega (arith, leb-true (tabAt s) a p)))
+    side k false p = before (rw (length-take-le (tabAt s) s (omega arith)) (leb-false (tabAt s) a p))
+
+    go : (t : Bool) → hasTab s ≡ t → cond t x y ≡ y
+    go true p = side (ltb-true _ _ p) (leb (tabAt s) a) refl
+    go false p = refl
+
+-- a malformed field makes the whole malformed, whatever the others are
+either : {A : Type 0} (t : Bool) (x : A) → cond t x x ≡ x
+either true x = refl
+either false x = refl
+
+no-nbits : (pitch : Field) (active : Number) → sideOf pitch active Number.Malformed ≡ Side.Malformed
+no-nbits pitch Number.Malformed = refl
+no-nbits pitch (Number.Value mark) = refl
+
+no-pitch : (active nbits : Number) → sideOf Field.Malformed active nbits ≡ Side.Malformed
+no-pitch Number.Malformed nbits = refl
+no-pitch (Number.Value mark) Number.Malformed = refl
+no-pitch (Number.Value mark) (Number.Value bits) = either (leb mark 1) Side.Malformed
+
+-- active and nbits have 1 + 1 + 9 bytes at most, and with pitch before them 9 + 1 + 11
+long-marks : (pitch : Field) (s : List ℕ) → 11 < length s → marksRead pitch s ≡ Side.Malformed
+unfolding marksRead
+long-marks pitch s h =
+    parted 1 9 s _ _ h
+    (λ l. rw (long-number 1 (beforeTab s) l))
+    (λ l. rw (long-number 9 (afterTab s) l) (no-nbits pitch (numberOf 1 (beforeTab s))))
+
+no-pitch-text : (s : List ℕ) → marksRead Field.Malformed s ≡ Side.Malformed
+unfolding marksRead
+no-pitch-text s = rw (no-pitch (numberOf 1 (beforeTab s)) (numberOf 9 (afterTab s))) (either (hasTab s) Side.Malformed)
+
+long-side : (s : List ℕ) → 21 < length s → sideRead s ≡ Side.Malformed
+unfolding sideRead
+long-side s h =
+    parted 9 11 s _ _ h
+    (λ l. rw (long-field (beforeTab s) l) (no-pitch-text (afterTab s)))
+    (long-marks (fieldOf 9 (beforeTab s)) (afterTab s))
+
+long-rest : (number : Number) (s : List ℕ) → 21 < length s → withNumber number s ≡ Line.Malformed
+unfolding numbered
+long-rest Number.Malformed s h = refl
+long-rest (Number.Value frame) s h = rw (ne-eqb (length s) 4 (λ e. omega arith), long-side s h)
+
+pub long-line : (s : List ℕ) → 32 ≤ length s → lineRead s ≡ Line.Malformed
+unfolding lineRead
+long-line s h = parted 9 21 s _ _ (omega arith) (λ l. rw (long-number 9 (beforeTab s) l)) (long-rest (numberOf 9 (beforeTab s)) (afterTab s))
+
+-- so its first 32 bytes are read as the line is, and they are all that is held
+pub first-bytes : (s : List ℕ) → lineRead (take 32 s) ≡ lineRead s
+first-bytes s = go (leb (length s) 32) refl
+  where
+    go : (t : Bool) → leb (length s) 32 ≡ t → lineRead (take 32 s) ≡ lineRead s
+    go true p = rw (take-all 32 s (leb-true _ _ p))
+    go false p =
+        let l : 32 < length s = leb-false (length s) 32 p in
+        long-line (take 32 s) (rw (length-take-le 32 s (omega arith)) (omega arith)) ∙ sym (long-line s (omega arith))
