@@ -1,0 +1,33 @@
+-- `put_columns` writes the cells of a frame, one after the other.
+use native.Mathlib.Omega.{arith}
+use Rattle.lines.proofs.Stores.{written-then}
+use Rattle.replay_listing.proofs.Cells.{cell-written}
+use borrow.Author.Needs.{needs}
+use Rattle.replay_listing.proofs.row.put_columns.Statement.{statement}
+use Rattle.replay_listing.proofs.row.put_columns.Tie as tie
+
+returns : tie.Need-returns
+returns c =
+    let gain = c .before .before .before .before .before .before .before in
+    let lag = gain .before .before .before .before in
+    let case = lag .before .before .before .before in (
+      written-then
+          (written-then
+          (written-then (cell-written 9 (case .before .case-number .ensures) (case .put-cell .ensures .0) (omega arith)) (lag .put-lag .ensures .0))
+          (gain .put-gain .ensures .0))
+          (cell-written 9 (c .before .before .before .flag-number .ensures) (c .before .before .put-cell2 .ensures .0) (omega arith)),
+      omega arith,
+    )
+
+pub put-columns-spec : {M : Type 1} → statement M
+put-columns-spec =
+    tie.close
+    (tie.spec
+    (λ c κs. search needs)
+    (λ c κs. search needs)
+    (λ c κs. search needs)
+    (λ c κs. search needs)
+    (λ c κs. search needs)
+    (λ c κs. search needs)
+    (λ c. search needs)
+    returns)

@@ -1,0 +1,34 @@
+-- The replay without samples and coefficients, line by line. That it lists what the decoder does is proved in `replayed`.
+use Prim.Native.Nat.{ℕ}
+use mathlib.Core.List.{List}
+use Rattle.control.specs.State.{clearedRegisters}
+use Rattle.lines.specs.Listings.{Rules, nextNumber}
+use Rattle.replaying.specs.Steps.{stepped}
+use Rattle.replaying.specs.declared.step.Last.{Last}
+use Rattle.replaying.specs.declared.step.Stepped.{Stepped}
+use Rattle.replay_listing.specs.Rows.{header, rowText}
+use Rattle.replay_listing.specs.declared.machine.Replay.{Replay}
+use Rattle.replay_listing.specs.declared.machine.Replayed.{Replayed}
+
+-- before the first line: no frame has counted, and the decoder is fresh
+abbrev pub first : Replay
+first = record { line = 1; last = Last.None; registers = clearedRegisters 48000 10000 }
+
+abbrev pub replayedAs : ℕ → Stepped → Replayed
+replayedAs line s = record { replay = record { line = nextNumber line; last = s .last; registers = s .registers }; row = s .row }
+
+-- a line: what is known after it, and its row
+unfoldable pub replayedLine : Replay → List ℕ → Replayed
+replayedLine p line = replayedAs (p .line) (stepped (p .last) (p .registers) line)
+
+-- a row has seven cells of at most 21 bytes
+abbrev pub bareRules : Rules
+bareRules =
+    record {
+      State = Replay;
+      header = header;
+      first = first;
+      moved = λ p line. replayedLine p line .replay;
+      row = λ p line. rowText (p .line) (replayedLine p line .row);
+      space = 147;
+    }

@@ -1,0 +1,64 @@
+-- A row of the replay as text.
+use Prim.Native.Nat.{ℕ}
+use mathlib.Core.Bool.{Bool, true, false}
+use mathlib.Core.List.{List, [], _∷_, _++_}
+use Rattle.rates.specs.Answers.{numberOf}
+use Rattle.lag.specs.declared.gain.Gain.{Gain}
+use Rattle.lag.specs.declared.rescale.Lag.{Lag}
+use Rattle.filter.specs.declared.transition.Transition.{Transition}
+use Rattle.filter.specs.declared.transition.Transition.the-variants.{Inactive, Activated, Deactivated, ActiveNoPitchChange, ActivePitchChanged}
+use Rattle.lines.specs.Texts.{cell, dashCell}
+use Rattle.replaying.specs.declared.frame.Columns.{Columns}
+use Rattle.replaying.specs.declared.frame.Shown.{Shown}
+use Rattle.replaying.specs.declared.frame.Row.{Row}
+
+-- line, case, whole, quarter, row, settled, answer
+abbrev pub header : List ℕ
+header =
+    108 ∷ 105 ∷ 110 ∷ 101 ∷ 9 ∷
+    99 ∷ 97 ∷ 115 ∷ 101 ∷ 9 ∷
+    119 ∷ 104 ∷ 111 ∷ 108 ∷ 101 ∷ 9 ∷
+    113 ∷ 117 ∷ 97 ∷ 114 ∷ 116 ∷ 101 ∷ 114 ∷ 9 ∷
+    114 ∷ 111 ∷ 119 ∷ 9 ∷
+    115 ∷ 101 ∷ 116 ∷ 116 ∷ 108 ∷ 101 ∷ 100 ∷ 9 ∷
+    97 ∷ 110 ∷ 115 ∷ 119 ∷ 101 ∷ 114 ∷ 10 ∷ []
+
+-- the cases as docs/SCOPE.md numbers them
+abbrev pub caseNumber : Transition → ℕ
+caseNumber Inactive = 1
+caseNumber Activated = 2
+caseNumber Deactivated = 3
+caseNumber ActiveNoPitchChange = 4
+caseNumber ActivePitchChanged = 5
+
+-- settled is 0 or 1
+abbrev pub flagNumber : Bool → ℕ
+flagNumber false = 0
+flagNumber true = 1
+
+-- whole and quarter; dashes for an inactive frame
+abbrev pub lagText : Bool → Lag → List ℕ
+lagText false lag = dashCell 9 ++ dashCell 9
+lagText true lag = cell (lag .whole) 9 ++ cell (lag .quarter) 9
+
+-- the row; a dash for an inactive frame, and where the gain is off
+abbrev pub gainText : Bool → Gain → List ℕ
+gainText false gain = dashCell 9
+gainText true Gain.Off = dashCell 9
+gainText true (Gain.On gain row) = cell row 9
+
+-- case, whole, quarter, row, settled
+abbrev pub columnsText : Columns → List ℕ
+columnsText c =
+    cell (caseNumber (c .transition)) 9 ++ lagText (c .active) (c .lag) ++ gainText (c .active) (c .gain) ++ cell (flagNumber (c .settled)) 9
+
+abbrev pub dashesText : List ℕ
+dashesText = dashCell 9 ++ dashCell 9 ++ dashCell 9 ++ dashCell 9 ++ dashCell 9
+
+abbrev pub shownText : Shown → List ℕ
+shownText Shown.Dashes = dashesText
+shownText (Shown.Columns c) = columnsText c
+
+-- the number of the line first, the answer's number last
+abbrev pub rowText : ℕ → Row → List ℕ
+rowText line row = cell line 9 ++ shownText (row .shown) ++ cell (numberOf (row .answer)) 10

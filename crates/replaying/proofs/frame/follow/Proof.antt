@@ -1,0 +1,29 @@
+-- `follow` goes by the verdict.
+use borrow.Author.Needs.{needs}
+use Rattle.replaying.proofs.frame.follow.Statement.{statement}
+use Rattle.replaying.proofs.frame.follow.Tie as tie
+
+returns : tie.Need-returns
+returns c = rw (c .refused-row .ensures, c .before .before .verdict .given .1)
+
+returns-2 : tie.Need-returns-2
+returns-2 c =
+    rw (
+      c .columns-of .ensures,
+      c .before .advance .ensures,
+      c .before .before .bare-filter .ensures,
+      c .before .before .before .before .verdict2 .given .1,
+    )
+
+pub follow-spec : {M : Type 1} → statement M
+follow-spec =
+    tie.close
+    (tie.spec
+    (λ c. search needs)
+    (λ c κs. search needs)
+    (λ c. search needs)
+    (λ c κs. search needs)
+    (λ c κs. search needs)
+    (λ c κs. search needs)
+    returns
+    returns-2)

@@ -1,0 +1,26 @@
+-- `lose` goes by fitness.
+use Rattle.replaying.specs.Frames.{lostBare}
+use borrow.Author.Needs.{needs}
+use Rattle.replaying.proofs.frame.lose.Statement.{statement}
+use Rattle.replaying.proofs.frame.lose.Tie as tie
+
+returns : tie.Need-returns
+unfolding lostBare
+returns c = rw (c .refused-row .ensures, c .before .unsettle .ensures, ← c .before .before .before .before .fit-config .ensures, c .before .before .enum-told .given .1)
+
+returns-2 : tie.Need-returns-2
+unfolding lostBare
+returns-2 c = rw (c .refused-row2 .ensures, ← c .before .before .before .before .fit-config .ensures, c .before .before .answer .given .1)
+
+pub lose-spec : {M : Type 1} → statement M
+lose-spec =
+    tie.close
+    (tie.spec
+    (λ c κs. search needs)
+    (λ c. search needs)
+    (λ c κs. search needs)
+    (λ c κs. search needs)
+    (λ c. search needs)
+    (λ c κs. search needs)
+    returns
+    returns-2)

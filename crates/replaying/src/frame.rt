@@ -1,0 +1,144 @@
+// A frame and a loss mark, as far as their row goes.
+use coefficients::Taps;
+use control::fitness::fit_config;
+use control::judge::Plan;
+use control::judge::SideInfo;
+use control::judge::Verdict;
+use control::judge::judge_side;
+use control::next::advance;
+use control::next::unsettle;
+use control::registers::Registers;
+use entries::line::Content;
+use filter::transition::Transition;
+use lag::gain::Gain;
+use lag::rescale::Lag;
+use rates::answer::Answer;
+use rates::config::Configured;
+ghost use mathlib.Core.Path.{_≡_};
+ghost use Rattle.replaying.specs.Frames.{refusedRow, bareTaps, columnsOf, judgedBare, followedBy, lostBare, replayedContent};
+
+// What the row of an accepted frame shows.
+pub struct Columns {
+    pub transition: Transition,
+    pub active: bool,
+    pub lag: Lag,
+    pub gain: Gain,
+    pub settled: bool,
+}
+
+pub enum Shown {
+    Dashes,
+    Columns(Columns),
+}
+
+pub struct Row {
+    pub answer: Answer,
+    pub shown: Shown,
+}
+
+// The registers after a line's content, and the line's row.
+pub struct Followed {
+    pub registers: Registers,
+    pub row: Row,
+}
+
+// A row of dashes.
+pub(crate) fn refused_row(answer: Answer) -> Row
+    ensures { λ r. ⌜ r ≡ refusedRow answer ⌝ }
+{
+    Row {
+        answer,
+        shown: Shown::Dashes,
+    }
+}
+
+// The filter of a frame without its coefficients, which decide nothing but samples.
+fn bare_filter(plan: Plan) -> Taps
+    ensures { λ r. ⌜ r ≡ bareTaps plan ⌝ }
+{
+    let config = plan.config;
+    let fs = config.fs;
+    let lag = plan.lag;
+    Taps {
+        l_den: fs.l_den,
+        c_num: [0.0; 11],
+        c_den: [0.0; 13],
+        lag,
+    }
+}
+
+fn columns_of(plan: Plan, settled: bool) -> Columns
+    ensures { λ r. ⌜ r ≡ columnsOf plan settled ⌝ }
+{
+    let transition = plan.transition;
+    let lag = plan.lag;
+    let gain = plan.gain;
+    Columns {
+        transition,
+        active: plan.active,
+        lag,
+        gain,
+        settled,
+    }
+}
+
+// The verdict of the decoder on a frame whose set and samples are good.
+fn judge_bare(registers: Registers, side: SideInfo) -> Verdict
+    ensures { λ r. ⌜ r ≡ judgedBare registers side ⌝ }
+{
+    match fit_config(registers) {
+        Configured::Config(config) => judge_side(registers, config, side),
+        Configured::Refused(answer) => Verdict::Refused(answer),
+    }
+}
+
+// What a verdict leads to.
+fn follow(registers: Registers, verdict: Verdict) -> Followed
+    ensures { λ r. ⌜ r ≡ followedBy registers verdict ⌝ }
+{
+    match verdict {
+        Verdict::Refused(answer) => Followed {
+            registers,
+            row: refused_row(answer),
+        },
+        Verdict::Accepted(plan) => {
+            let next = advance(registers, plan, bare_filter(plan));
+            Followed {
+                registers: next,
+                row: Row {
+                    answer: Answer::Done,
+                    shown: Shown::Columns(columns_of(plan, next.settled)),
+                },
+            }
+        }
+    }
+}
+
+// A loss mark.
+fn lose(registers: Registers) -> Followed
+    ensures { λ r. ⌜ r ≡ lostBare registers ⌝ }
+{
+    match fit_config(registers) {
+        Configured::Config(_) => {
+            let lost = unsettle(registers);
+            Followed {
+                registers: lost,
+                row: refused_row(Answer::Done),
+            }
+        }
+        Configured::Refused(answer) => Followed {
+            registers,
+            row: refused_row(answer),
+        },
+    }
+}
+
+// What came of a frame, as the decoder takes it.
+pub fn replay_content(registers: Registers, content: Content) -> Followed
+    ensures { λ r. ⌜ r ≡ replayedContent registers content ⌝ }
+{
+    match content {
+        Content::Lost => lose(registers),
+        Content::Frame(side) => follow(registers, judge_bare(registers, side)),
+    }
+}
