@@ -45,7 +45,7 @@ zero-in-range : inRange 0·0 ≡ true
 unfolding inRange le lt eq neg ofInt round
 zero-in-range = refl
 
-range-zeros : (n : ℕ) → allInRange (replicate n 0·0) ≡ true
+pub range-zeros : (n : ℕ) → allInRange (replicate n 0·0) ≡ true
 range-zeros zero = refl
 range-zeros (suc n) = rw zero-in-range (range-zeros n)
 

@@ -1,0 +1,105 @@
+-- THE SETTLED COLUMN. `by-calls`: after any lines the decoder is what the calls of those lines leave from a start. `settled-column`: where a line
+-- shows whether the decoder is settled, that is what the settled rule says of those calls, the line's own among them.
+use Prim.Native.Nat.{ℕ}
+use mathlib.Core.Path.{_≡_, refl, sym, ap, _∙_, subst}
+use mathlib.Core.Bool.{Bool, true, false, cond}
+use mathlib.Core.List.{List, [], _∷_, _++_}
+use native.Mathlib.Omega.{arith}
+use Rattle.rates.specs.declared.answer.Answer.the-variants.{WrongFrameNumber}
+use Rattle.control.specs.State.{settledLimit}
+use Rattle.control.specs.Judge.{judged}
+use Rattle.control.specs.declared.judge.Verdict.{Verdict}
+use Rattle.decoder.specs.State.{fitDecoder}
+use Rattle.decoder.specs.declared.state.Decoder.{Decoder}
+use Rattle.settling.specs.Calls.{Call, after, reply, fromStart, eventsFrom, settledBy, FitState}
+use Rattle.settling.proofs.Held.{limit-found}
+use Rattle.settling.proofs.SettledExactly.{settled-exactly}
+use Rattle.entries.specs.Lines.{lineRead}
+use Rattle.entries.specs.declared.line.Content.{Content}
+use Rattle.entries.specs.declared.line.Line.{Line}
+use Rattle.replaying.specs.Frames.{refusedRow}
+use Rattle.replaying.specs.Steps.{follows}
+use Rattle.replaying.specs.declared.frame.Columns.{Columns}
+use Rattle.replaying.specs.declared.frame.Shown.{Shown}
+use Rattle.replayed.specs.Whole.{Set, Lendable, Between, first, shownBy, given, callOf, shownOf, calledRow, countedLine, skippedLine, movedBy, rowOf, replayRules}
+use Rattle.replayed.specs.Made.{afterLines, madeBy, callsOf}
+use Rattle.replayed.proofs.OneCall.{config, first-fit, same-call}
+use Rattle.replayed.proofs.OneLine.{lines-fit}
+
+abbrev started : List Call → Decoder
+started calls = fromStart 48000 10000 calls
+
+module _ (set : Set) where
+  -- one line
+  line-by-calls : (s : Between) (calls : List Call) → s .decoder ≡ started calls → (l : Line) → movedBy set s l .decoder ≡ started (madeBy set (s .last) l calls)
+  line-by-calls s calls e Line.Malformed = e
+  line-by-calls s calls e (Line.Entry x) = go (follows (s .last) (x .frame))
+    where
+      go : (b : Bool) → cond b (countedLine set s (x .frame) (x .content)) (skippedLine s) .decoder ≡ started (cond b (callOf set (x .content) ∷ calls) calls)
+      go true = ap (λ (d : Decoder). after d (callOf set (x .content))) e
+      go false = e
+
+  lines-by-calls : (s : Between) (calls : List Call) → s .decoder ≡ started calls → (ls : List (List ℕ)) →
+      afterLines (replayRules set) s ls .decoder ≡ started (callsOf set s ls calls)
+  unfolding afterLines callsOf
+  lines-by-calls s calls e [] = e
+  lines-by-calls s calls e (line ∷ rest) =
+      lines-by-calls (movedBy set s (lineRead line)) (madeBy set (s .last) (lineRead line) calls) (line-by-calls s calls e (lineRead line)) rest
+
+  pub by-calls : (ls : List (List ℕ)) → afterLines (replayRules set) first ls .decoder ≡ fromStart 48000 10000 (callsOf set first ls [])
+  by-calls ls = lines-by-calls first [] refl ls
+
+  -- a last line's call is the latest
+  calls-append : (s : Between) (calls : List Call) (ls : List (List ℕ)) (line : List ℕ) →
+      callsOf set s (ls ++ (line ∷ [])) calls ≡ madeBy set (afterLines (replayRules set) s ls .last) (lineRead line) (callsOf set s ls calls)
+  unfolding afterLines callsOf
+  calls-append s calls [] line = refl
+  calls-append s calls (l ∷ ls) line = calls-append (movedBy set s (lineRead l)) (madeBy set (s .last) (lineRead l) calls) ls line
+
+-- what is shown
+abbrev shows : Shown → Bool
+shows Shown.Dashes = false
+shows (Shown.Columns c) = c .settled
+
+module _ (set : Set) (lendable : Lendable set) where
+  -- a call shows the report that it gives, or none
+  shown-settled : (d : Decoder) (content : Content) (c : Columns) → shownOf set d content ≡ Shown.Columns c → c .settled ≡ reply d (callOf set content) .settled
+  shown-settled d Content.Lost c e = let z : _≡_ {A = ℕ} 0 1 = cc in absurd (omega arith)
+  shown-settled d (Content.Frame side) c e =
+      go (judged (d .registers) (fitDecoder d) (set .numerators) (set .denominators) side (given set side .samples)) e
+    where
+      go : (v : Verdict) → shownBy v (reply d (callOf set (Content.Frame side)) .settled) ≡ Shown.Columns c → c .settled ≡ reply d (callOf set (Content.Frame side)) .settled
+      go (Verdict.Refused answer) q = let z : _≡_ {A = ℕ} 0 1 = cc in absurd (omega arith)
+      go (Verdict.Accepted plan) q = sym (ap shows q)
+
+  -- the report, by the settled rule
+  reported : (calls : List Call) → FitState config (started calls) → (content : Content) →
+      reply (started calls) (callOf set content) .settled ≡ settledBy 3 (eventsFrom 48000 10000 (callOf set content ∷ calls))
+  unfolding settledLimit
+  reported calls fit content =
+      let limit = limit-found config (started (callOf set content ∷ calls)) (same-call set lendable (started calls) fit content .stays-fit) in
+      settled-exactly 48000 10000 (callOf set content) calls ∙ ap (λ (n : ℕ). settledBy n (eventsFrom 48000 10000 (callOf set content ∷ calls))) limit
+
+  pub settled-column : (ls : List (List ℕ)) (line : List ℕ) (c : Columns) → rowOf set (afterLines (replayRules set) first ls) (lineRead line) .shown ≡ Shown.Columns c →
+      c .settled ≡ settledBy 3 (eventsFrom 48000 10000 (callsOf set first (ls ++ (line ∷ [])) []))
+  settled-column ls line c e = rw (calls-append set first [] ls line) (go (lineRead line) e)
+    where
+      s : Between
+      s = afterLines (replayRules set) first ls
+
+      calls : List Call
+      calls = callsOf set first ls []
+
+      called : (content : Content) → shownOf set (s .decoder) content ≡ Shown.Columns c → c .settled ≡ settledBy 3 (eventsFrom 48000 10000 (callOf set content ∷ calls))
+      called content q =
+          let fit = subst (FitState config) (by-calls set ls) (lines-fit set lendable first first-fit ls) in
+          shown-settled (s .decoder) content c q ∙ ap (λ (d : Decoder). reply d (callOf set content) .settled) (by-calls set ls) ∙ reported calls fit content
+
+      go : (l : Line) → rowOf set s l .shown ≡ Shown.Columns c → c .settled ≡ settledBy 3 (eventsFrom 48000 10000 (madeBy set (s .last) l calls))
+      go Line.Malformed q = let z : _≡_ {A = ℕ} 0 1 = cc in absurd (omega arith)
+      go (Line.Entry x) q = pick (follows (s .last) (x .frame)) q
+        where
+          pick : (b : Bool) → cond b (calledRow set (s .decoder) (x .content)) (refusedRow WrongFrameNumber) .shown ≡ Shown.Columns c →
+              c .settled ≡ settledBy 3 (eventsFrom 48000 10000 (cond b (callOf set (x .content) ∷ calls) calls))
+          pick true p = called (x .content) p
+          pick false p = let z : _≡_ {A = ℕ} 0 1 = cc in absurd (omega arith)

@@ -1,0 +1,48 @@
+-- What some lines leave, and the calls that they make of the decoder.
+use mathlib.Core.Bool.{cond}
+use mathlib.Core.List.{List, [], _∷_}
+use Prim.Native.Nat.{ℕ}
+use lib.ListN.{replicate}
+use Rattle.floats.specs.Single.{0·0}
+use Rattle.control.specs.declared.registers.Registers.{Registers}
+use Rattle.settling.specs.Calls.{Call}
+use Rattle.lines.specs.Listings.{Rules}
+use Rattle.entries.specs.Lines.{lineRead}
+use Rattle.entries.specs.declared.line.Line.{Line}
+use Rattle.replaying.specs.Steps.{follows}
+use Rattle.replaying.specs.declared.step.Last.{Last}
+use Rattle.replay_listing.specs.declared.machine.Replay.{Replay}
+use Rattle.replayed.specs.Whole.{Set, Between, callOf, movedBy}
+
+-- the registers with coefficients of 0.0 in place of those of a set
+abbrev pub bare : Registers → Registers
+bare r = record {
+  rate = r .rate;
+  duration = r .duration;
+  «ltpf_active_prev» = r .«ltpf_active_prev»;
+  «c_num» = replicate 11 0·0;
+  «c_den» = replicate 13 0·0;
+  lag = r .lag;
+  run = r .run;
+  settled = r .settled;
+}
+
+-- what the replay without samples and coefficients keeps of all that
+abbrev pub bareOf : Between → Replay
+bareOf s = record { line = s .line; last = s .last; registers = bare (s .decoder .registers) }
+
+-- the state of a listing after some lines, in their order
+unfoldable pub afterLines : (L : Rules) → L .State → List (List ℕ) → L .State
+afterLines L s [] = s
+afterLines L s (line ∷ rest) = afterLines L (L .moved s line) rest
+
+module _ (set : Set) where
+  -- a line that counts adds its call to those made before
+  abbrev pub madeBy : Last → Line → List Call → List Call
+  madeBy last Line.Malformed calls = calls
+  madeBy last (Line.Entry e) calls = cond (follows last (e .frame)) (callOf set (e .content) ∷ calls) calls
+
+  -- the calls of some lines, the latest first, after those that were made before
+  unfoldable pub callsOf : Between → List (List ℕ) → List Call → List Call
+  callsOf s [] calls = calls
+  callsOf s (line ∷ rest) calls = callsOf (movedBy set s (lineRead line)) rest (madeBy (s .last) (lineRead line) calls)

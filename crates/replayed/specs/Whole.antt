@@ -1,0 +1,104 @@
+-- The replay of a recording, defined on the whole input as a list of bytes: each line that counts is a call of a fresh 48000 Hz, 10 ms decoder
+-- with all samples zero, and its row is read off that call.
+use Prim.Native.Nat.{ℕ}
+use mathlib.Core.Path.{_≡_}
+use mathlib.Core.Bool.{Bool, true, cond}
+use mathlib.Core.List.{List}
+use lib.Ieee.{Float}
+use lib.ListN.{length, replicate}
+use Rattle.floats.specs.Single.{0·0}
+use Rattle.rates.specs.declared.answer.Answer.the-variants.{MalformedLine, WrongFrameNumber}
+use Rattle.control.specs.Judge.{setFinite, judged}
+use Rattle.control.specs.declared.judge.SideInfo.{SideInfo}
+use Rattle.control.specs.declared.judge.Verdict.{Verdict}
+use Rattle.decoder.specs.State.{started, fitDecoder}
+use Rattle.decoder.specs.declared.state.Decoder.{Decoder}
+use Rattle.settling.specs.Calls.{Given, Call, frame, loss, after, reply}
+use Rattle.lines.specs.Listings.{Rules, nextNumber, listingOf}
+use Rattle.entries.specs.Lines.{lineRead}
+use Rattle.entries.specs.declared.line.Content.{Content}
+use Rattle.entries.specs.declared.line.Line.{Line}
+use Rattle.replaying.specs.Frames.{refusedRow, columnsOf}
+use Rattle.replaying.specs.Steps.{follows}
+use Rattle.replaying.specs.declared.frame.Shown.{Shown}
+use Rattle.replaying.specs.declared.frame.Row.{Row}
+use Rattle.replaying.specs.declared.step.Last.{Last}
+use Rattle.replay_listing.specs.Rows.{header, rowText}
+
+-- a lent coefficient set
+pub record Set : Type 0 where
+  pub numerators : List Float
+  pub denominators : List Float
+
+-- one that 48000 Hz takes: four rows of 11 and four of 13, each entry finite
+pub record Lendable (set : Set) : Type 0 where
+  pub nums : length (set .numerators) ≡ 44
+  pub dens : length (set .denominators) ≡ 52
+  pub finite : setFinite (set .numerators) (set .denominators) ≡ true
+
+-- between two lines: the number of the next one, the last frame that counted, and the decoder
+pub record Between : Type 0 where
+  pub line : ℕ
+  pub last : Last
+  pub decoder : Decoder
+
+-- before the first line: no frame has counted, and the decoder is fresh
+abbrev pub first : Between
+first = record { line = 1; last = Last.None; decoder = started 48000 10000 .decoder }
+
+-- what a verdict shows: dashes, or the plan and the settled report
+abbrev pub shownBy : Verdict → Bool → Shown
+shownBy (Verdict.Refused answer) settled = Shown.Dashes
+shownBy (Verdict.Accepted plan) settled = Shown.Columns (columnsOf plan settled)
+
+-- a line that is answered 10 or 11 leaves everything as it is
+abbrev pub skippedLine : Between → Between
+skippedLine s = record { line = nextNumber (s .line); last = s .last; decoder = s .decoder }
+
+module _ (set : Set) where
+  -- a frame of zeros
+  abbrev pub given : SideInfo → Given
+  given side =
+      record { numerators = set .numerators; denominators = set .denominators; side = side; samples = replicate 480 0·0 }
+
+  -- the call of a line that counts: a loss mark, or a frame
+  abbrev pub callOf : Content → Call
+  callOf Content.Lost = loss
+  callOf (Content.Frame side) = frame (given side)
+
+  -- what its row shows: nothing of a loss mark; of a frame the decoder's verdict on it, and the report that the call gives
+  abbrev pub shownOf : Decoder → Content → Shown
+  shownOf d Content.Lost = Shown.Dashes
+  shownOf d (Content.Frame side) =
+      shownBy (judged (d .registers) (fitDecoder d) (set .numerators) (set .denominators) side (replicate 480 0·0)) (reply d (frame (given side)) .settled)
+
+  abbrev pub calledRow : Decoder → Content → Row
+  calledRow d content = record { answer = reply d (callOf content) .answer; shown = shownOf d content }
+
+  -- any other line counts, and the decoder is what its call leaves
+  abbrev pub countedLine : Between → ℕ → Content → Between
+  countedLine s number content = record { line = nextNumber (s .line); last = Last.Frame number; decoder = after (s .decoder) (callOf content) }
+
+  -- 10, then 11, then what the call answers
+  abbrev pub movedBy : Between → Line → Between
+  movedBy s Line.Malformed = skippedLine s
+  movedBy s (Line.Entry e) = cond (follows (s .last) (e .frame)) (countedLine s (e .frame) (e .content)) (skippedLine s)
+
+  abbrev pub rowOf : Between → Line → Row
+  rowOf s Line.Malformed = refusedRow MalformedLine
+  rowOf s (Line.Entry e) = cond (follows (s .last) (e .frame)) (calledRow (s .decoder) (e .content)) (refusedRow WrongFrameNumber)
+
+  abbrev pub replayRules : Rules
+  replayRules =
+      record {
+        State = Between;
+        header = header;
+        first = first;
+        moved = λ s line. movedBy s (lineRead line);
+        row = λ s line. rowText (s .line) (rowOf s (lineRead line));
+        space = 147;
+      }
+
+  -- the header, and a row for each line
+  abbrev pub replay : List ℕ → List ℕ
+  replay input = listingOf replayRules input
