@@ -1,5 +1,5 @@
 // Measures the Rust, liblc3 (where it was built in) and our library side by side, and prints the table.
-// Its argument is the listing program's speed in MB/s, which is measured beforehand and goes into the table.
+// Its arguments are the speeds of the listing programs lags and replay in MB/s, which are measured beforehand and go into the table.
 #include "cases.h"
 #include "measure.h"
 #include "slowest.h"
@@ -120,10 +120,10 @@ static void measure_setting(const struct setting *setting)
     }
 }
 
-// The Rust and liblc3 have no listing.
-static void print_listing(const char *speed)
+// The Rust and liblc3 have no listings.
+static void print_listing(const char *program, const char *speed)
 {
-    printf("| - | - | listing | - |");
+    printf("| - | - | %s | - |", program);
     print_liblc3(" - |", 0);
     printf(" %s MB/s | - |", speed);
     print_liblc3(" - |", 0);
@@ -145,8 +145,8 @@ static void print_targets(void)
 
 int main(int count_of_words, char **words)
 {
-    if (count_of_words != 2) {
-        fprintf(stderr, "usage: bench LISTING-MB-PER-SECOND\n");
+    if (count_of_words != 3) {
+        fprintf(stderr, "usage: bench LAGS-MB-PER-SECOND REPLAY-MB-PER-SECOND\n");
         return 2;
     }
     size_t count = sizeof settings / sizeof *settings;
@@ -160,7 +160,8 @@ int main(int count_of_words, char **words)
         fprintf(stderr, "bench: %u Hz, %u us (%zu of %zu)\n", settings[i].rate, settings[i].duration, i + 1, count);
         measure_setting(&settings[i]);
     }
-    print_listing(words[1]);
+    print_listing("lags", words[1]);
+    print_listing("replay", words[2]);
     print_targets();
     return 0;
 }

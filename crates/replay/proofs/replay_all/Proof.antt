@@ -1,0 +1,25 @@
+-- `replay_all` is safe and ends: its turns run out. Nothing has to hold from turn to turn.
+use borrow.Author.Needs.{needs}
+use Rattle.replay.proofs.replay_all.Statement.{statement}
+use Rattle.replay.proofs.replay_all.Tie as tie
+
+abbrev Inv-loop : tie.InvT-loop
+Inv-loop fd name read₀ turns₀ read turns = Unit {0}
+
+abbrev μ-loop : tie.MeasureT-loop
+μ-loop fd name read₀ turns₀ read turns = turns
+
+pub replay-all-spec : {M : Type 1} → statement M
+replay-all-spec =
+    tie.close
+    (tie.spec
+    Inv-loop
+    μ-loop
+    (λ c κs. search needs)
+    (λ c. search needs)
+    (λ c κs. search needs)
+    (λ c. search needs)
+    (λ c. search needs)
+    (λ c. search needs)
+    (λ c. search needs)
+    (λ c. search needs))
