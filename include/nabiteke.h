@@ -40,7 +40,7 @@
  * Time
  *
  *   The slowest frames are those of subnormal numbers, and an encoder that falls into digital silence stays in them. On
- *   x86-64 they take 10 to 90 times the typical frame, at most some 2.1% of a frame's duration (docs/BENCHMARK.md).
+ *   x86-64 they take 10 to 80 times the typical frame, at most some 2.1% of a frame's duration (docs/BENCHMARK.md).
  *
  * Stack
  *

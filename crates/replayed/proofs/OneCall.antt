@@ -39,7 +39,7 @@ use Rattle.settling.proofs.Silence.{range-zeros}
 use Rattle.settling.proofs.Judging.{OutcomeOf}
 use Rattle.settling.proofs.FitStates.{cleared-fit, lost-done, after-lost, unsettled-fit, framed-fit}
 use Rattle.entries.specs.declared.line.Content.{Content}
-use Rattle.replaying.specs.Frames.{bareTaps, judgedWith, judgedBare, followedBy, lostWith, lostBare, replayedContent}
+use Rattle.replaying.specs.Frames.{bareTaps, judgedWith, judgedBare, playedBy, lostWith, lostBare, replayedContent}
 use Rattle.replayed.specs.Whole.{Set, Lendable, first, shownBy, given, callOf, calledRow}
 use Rattle.replayed.specs.Made.{bare}
 
@@ -102,6 +102,7 @@ in-range (Verdict.Refused answer) = refl
 in-range (Verdict.Accepted plan) = rw (range-zeros 480)
 
 module _ (set : Set) (lendable : Lendable set) (d : Decoder) (fit : FitState config d) where
+  -- so the verdict without coefficients is the decoder's on the side information
   pub bare-verdict : (side : SideInfo) → judgedBare (bare (d .registers)) side ≡ judgedSide (d .registers) config side
   unfolding judgedBare
   bare-verdict side =
@@ -118,9 +119,9 @@ module _ (set : Set) (lendable : Lendable set) (d : Decoder) (fit : FitState con
 
   -- what a frame leads to, by its verdict
   record Same (side : SideInfo) (v : Verdict) : Type 0 where
-    answer : framedWith d (set .numerators) (set .denominators) (replicate 480 0·0) v .0 .answer ≡ followedBy (bare (d .registers)) v .row .answer
-    shown : shownBy v (framedWith d (set .numerators) (set .denominators) (replicate 480 0·0) v .0 .settled) ≡ followedBy (bare (d .registers)) v .row .shown
-    registers : bare (framedWith d (set .numerators) (set .denominators) (replicate 480 0·0) v .0 .decoder .registers) ≡ followedBy (bare (d .registers)) v .registers
+    answer : framedWith d (set .numerators) (set .denominators) (replicate 480 0·0) v .0 .answer ≡ playedBy (bare (d .registers)) v .row .answer
+    shown : shownBy v (framedWith d (set .numerators) (set .denominators) (replicate 480 0·0) v .0 .settled) ≡ playedBy (bare (d .registers)) v .row .shown
+    registers : bare (framedWith d (set .numerators) (set .denominators) (replicate 480 0·0) v .0 .decoder .registers) ≡ playedBy (bare (d .registers)) v .registers
 
   -- the same whatever the verdict is
   same-outcome : (side : SideInfo) (o : OutcomeOf config (given set side)) →

@@ -9,7 +9,7 @@ use Rattle.settling.specs.Calls.{FitState}
 use Rattle.lines.specs.Listings.{rowsFrom}
 use Rattle.entries.specs.Lines.{lineRead}
 use Rattle.entries.specs.declared.line.Line.{Line}
-use Rattle.replaying.specs.Frames.{refusedRow, replayedContent}
+use Rattle.replaying.specs.Frames.{dashedRow, replayedContent}
 use Rattle.replaying.specs.Steps.{follows, skipped, counted, steppedEntry, steppedLine}
 use Rattle.replaying.specs.declared.frame.Row.{Row}
 use Rattle.replay_listing.specs.Rows.{rowText}
@@ -29,7 +29,7 @@ module _ (set : Set) (lendable : Lendable set) where
   pub same-line : (s : Between) → FitState config (s .decoder) → (l : Line) → SameLine s l
   unfolding steppedEntry
   same-line s fit Line.Malformed = record { row = refl; kept = refl; stays-fit = fit }
-  same-line s fit (Line.Entry e) = record { row = row (follows (s .last) (e .frame)); kept = kept (follows (s .last) (e .frame)); stays-fit = stays-fit (follows (s .last) (e .frame)) }
+  same-line s fit (Line.Entry e) = let b = follows (s .last) (e .frame) in record { row = row b; kept = kept b; stays-fit = stays-fit b }
     where
       r : Registers
       r = bare (s .decoder .registers)
@@ -39,7 +39,7 @@ module _ (set : Set) (lendable : Lendable set) where
 
       row : (b : Bool) →
           cond b (counted (e .frame) (replayedContent r (e .content))) (skipped (s .last) r WrongFrameNumber) .row ≡
-          cond b (calledRow set (s .decoder) (e .content)) (refusedRow WrongFrameNumber)
+          cond b (calledRow set (s .decoder) (e .content)) (dashedRow WrongFrameNumber)
       row true = sym (called .row)
       row false = refl
 

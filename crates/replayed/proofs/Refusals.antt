@@ -27,7 +27,7 @@ use Rattle.entries.specs.declared.line.Content.{Content}
 use Rattle.entries.specs.declared.line.Entry.{Entry}
 use Rattle.entries.specs.declared.line.Line.{Line}
 use Rattle.entries.proofs.FrameNumbers.{frame-below}
-use Rattle.replaying.specs.Frames.{refusedRow}
+use Rattle.replaying.specs.Frames.{dashedRow}
 use Rattle.replaying.specs.Steps.{follows}
 use Rattle.replaying.specs.declared.step.Last.{Last}
 use Rattle.replayed.specs.Whole.{Set, Lendable, Between, skippedLine, given, callOf, calledRow, countedLine, movedBy, rowOf}
@@ -47,7 +47,8 @@ module _ (set : Set) (lendable : Lendable set) (d : Decoder) (fit : FitState con
       go (leb (side .nbits) 3200) (lagFor (config .fs) (side .pitch))
     where
       go : (b : Bool) (l : FoundLag) →
-          among (numberOf (framedWith d (set .numerators) (set .denominators) (given set side .samples) (unless b TooManyBits (lagJudged (d .registers) config side l)) .0 .answer)) ≡ true
+          let v = unless b TooManyBits (lagJudged (d .registers) config side l) in
+          among (numberOf (framedWith d (set .numerators) (set .denominators) (given set side .samples) v .0 .answer)) ≡ true
       go false l = refl
       go true FoundLag.IndexTooLarge = refl
       go true (FoundLag.Lag lag) = refl
@@ -69,7 +70,7 @@ module _ (set : Set) (lendable : Lendable set) (s : Between) (fit : FitState con
   only-these Line.Malformed = refl
   only-these (Line.Entry e) = go (follows (s .last) (e .frame))
     where
-      go : (b : Bool) → among (numberOf (cond b (calledRow set (s .decoder) (e .content)) (refusedRow WrongFrameNumber) .answer)) ≡ true
+      go : (b : Bool) → among (numberOf (cond b (calledRow set (s .decoder) (e .content)) (dashedRow WrongFrameNumber) .answer)) ≡ true
       go true = called-among set lendable (s .decoder) fit (e .content)
       go false = refl
 
@@ -77,7 +78,7 @@ module _ (set : Set) (lendable : Lendable set) (s : Between) (fit : FitState con
   refused-changes-nothing Line.Malformed h = refl
   refused-changes-nothing (Line.Entry e) h = go (follows (s .last) (e .frame)) h
     where
-      go : (b : Bool) → 1 ≤ numberOf (cond b (calledRow set (s .decoder) (e .content)) (refusedRow WrongFrameNumber) .answer) →
+      go : (b : Bool) → 1 ≤ numberOf (cond b (calledRow set (s .decoder) (e .content)) (dashedRow WrongFrameNumber) .answer) →
           cond b (countedLine set s (e .frame) (e .content)) (skippedLine s) .decoder ≡ s .decoder
       go true k = called-refused set lendable (s .decoder) fit (e .content) k
       go false k = refl
@@ -86,7 +87,7 @@ module _ (set : Set) (lendable : Lendable set) (s : Between) (fit : FitState con
   skipped-changes-nothing Line.Malformed h = refl
   skipped-changes-nothing (Line.Entry e) h = go (follows (s .last) (e .frame)) h
     where
-      go : (b : Bool) → 10 ≤ numberOf (cond b (calledRow set (s .decoder) (e .content)) (refusedRow WrongFrameNumber) .answer) →
+      go : (b : Bool) → 10 ≤ numberOf (cond b (calledRow set (s .decoder) (e .content)) (dashedRow WrongFrameNumber) .answer) →
           cond b (countedLine set s (e .frame) (e .content)) (skippedLine s) ≡ skippedLine s
       go true k = absurd (omega (arith, answer-small config (s .decoder) fit (callOf set (e .content))))
       go false k = refl
@@ -94,11 +95,12 @@ module _ (set : Set) (lendable : Lendable set) (s : Between) (fit : FitState con
   pub others-count : (e : Entry) → numberOf (rowOf set s (Line.Entry e) .answer) ≤ 9 → movedBy set s (Line.Entry e) .last ≡ Last.Frame (e .frame)
   others-count e h = go (follows (s .last) (e .frame)) h
     where
-      go : (b : Bool) → numberOf (cond b (calledRow set (s .decoder) (e .content)) (refusedRow WrongFrameNumber) .answer) ≤ 9 →
+      go : (b : Bool) → numberOf (cond b (calledRow set (s .decoder) (e .content)) (dashedRow WrongFrameNumber) .answer) ≤ 9 →
           cond b (countedLine set s (e .frame) (e .content)) (skippedLine s) .last ≡ Last.Frame (e .frame)
       go true k = refl
       go false k = absurd (omega arith)
 
   -- after frame 999999999 there is no number that follows
-  pub numbers-end : s .last ≡ Last.Frame 999999999 → (line : List ℕ) (e : Entry) → lineRead line ≡ Line.Entry e → rowOf set s (lineRead line) .answer ≡ WrongFrameNumber
+  pub numbers-end : s .last ≡ Last.Frame 999999999 → (line : List ℕ) (e : Entry) → lineRead line ≡ Line.Entry e →
+      rowOf set s (lineRead line) .answer ≡ WrongFrameNumber
   numbers-end last line e h = rw (h, last, ne-eqb (e .frame) 1000000000 (λ q. omega (arith, frame-below line e h)))

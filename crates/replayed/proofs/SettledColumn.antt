@@ -17,7 +17,7 @@ use Rattle.settling.proofs.SettledExactly.{settled-exactly}
 use Rattle.entries.specs.Lines.{lineRead}
 use Rattle.entries.specs.declared.line.Content.{Content}
 use Rattle.entries.specs.declared.line.Line.{Line}
-use Rattle.replaying.specs.Frames.{refusedRow}
+use Rattle.replaying.specs.Frames.{dashedRow}
 use Rattle.replaying.specs.Steps.{follows}
 use Rattle.replaying.specs.declared.frame.Columns.{Columns}
 use Rattle.replaying.specs.declared.frame.Shown.{Shown}
@@ -31,7 +31,8 @@ started calls = fromStart 48000 10000 calls
 
 module _ (set : Set) where
   -- one line
-  line-by-calls : (s : Between) (calls : List Call) → s .decoder ≡ started calls → (l : Line) → movedBy set s l .decoder ≡ started (madeBy set (s .last) l calls)
+  line-by-calls : (s : Between) (calls : List Call) → s .decoder ≡ started calls → (l : Line) →
+      movedBy set s l .decoder ≡ started (madeBy set (s .last) l calls)
   line-by-calls s calls e Line.Malformed = e
   line-by-calls s calls e (Line.Entry x) = go (follows (s .last) (x .frame))
     where
@@ -68,7 +69,8 @@ module _ (set : Set) (lendable : Lendable set) where
   shown-settled d (Content.Frame side) c e =
       go (judged (d .registers) (fitDecoder d) (set .numerators) (set .denominators) side (given set side .samples)) e
     where
-      go : (v : Verdict) → shownBy v (reply d (callOf set (Content.Frame side)) .settled) ≡ Shown.Columns c → c .settled ≡ reply d (callOf set (Content.Frame side)) .settled
+      go : (v : Verdict) → shownBy v (reply d (callOf set (Content.Frame side)) .settled) ≡ Shown.Columns c →
+          c .settled ≡ reply d (callOf set (Content.Frame side)) .settled
       go (Verdict.Refused answer) q = let z : _≡_ {A = ℕ} 0 1 = cc in absurd (omega arith)
       go (Verdict.Accepted plan) q = sym (ap shows q)
 
@@ -80,7 +82,8 @@ module _ (set : Set) (lendable : Lendable set) where
       let limit = limit-found config (started (callOf set content ∷ calls)) (same-call set lendable (started calls) fit content .stays-fit) in
       settled-exactly 48000 10000 (callOf set content) calls ∙ ap (λ (n : ℕ). settledBy n (eventsFrom 48000 10000 (callOf set content ∷ calls))) limit
 
-  pub settled-column : (ls : List (List ℕ)) (line : List ℕ) (c : Columns) → rowOf set (afterLines (replayRules set) first ls) (lineRead line) .shown ≡ Shown.Columns c →
+  pub settled-column : (ls : List (List ℕ)) (line : List ℕ) (c : Columns) →
+      rowOf set (afterLines (replayRules set) first ls) (lineRead line) .shown ≡ Shown.Columns c →
       c .settled ≡ settledBy 3 (eventsFrom 48000 10000 (callsOf set first (ls ++ (line ∷ [])) []))
   settled-column ls line c e = rw (calls-append set first [] ls line) (go (lineRead line) e)
     where
@@ -90,7 +93,8 @@ module _ (set : Set) (lendable : Lendable set) where
       calls : List Call
       calls = callsOf set first ls []
 
-      called : (content : Content) → shownOf set (s .decoder) content ≡ Shown.Columns c → c .settled ≡ settledBy 3 (eventsFrom 48000 10000 (callOf set content ∷ calls))
+      called : (content : Content) → shownOf set (s .decoder) content ≡ Shown.Columns c →
+          c .settled ≡ settledBy 3 (eventsFrom 48000 10000 (callOf set content ∷ calls))
       called content q =
           let fit = subst (FitState config) (by-calls set ls) (lines-fit set lendable first first-fit ls) in
           shown-settled (s .decoder) content c q ∙ ap (λ (d : Decoder). reply d (callOf set content) .settled) (by-calls set ls) ∙ reported calls fit content
@@ -99,7 +103,7 @@ module _ (set : Set) (lendable : Lendable set) where
       go Line.Malformed q = let z : _≡_ {A = ℕ} 0 1 = cc in absurd (omega arith)
       go (Line.Entry x) q = pick (follows (s .last) (x .frame)) q
         where
-          pick : (b : Bool) → cond b (calledRow set (s .decoder) (x .content)) (refusedRow WrongFrameNumber) .shown ≡ Shown.Columns c →
+          pick : (b : Bool) → cond b (calledRow set (s .decoder) (x .content)) (dashedRow WrongFrameNumber) .shown ≡ Shown.Columns c →
               c .settled ≡ settledBy 3 (eventsFrom 48000 10000 (cond b (callOf set (x .content) ∷ calls) calls))
           pick true p = called (x .content) p
           pick false p = let z : _≡_ {A = ℕ} 0 1 = cc in absurd (omega arith)

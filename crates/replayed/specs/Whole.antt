@@ -18,7 +18,7 @@ use Rattle.lines.specs.Listings.{Rules, nextNumber, listingOf}
 use Rattle.entries.specs.Lines.{lineRead}
 use Rattle.entries.specs.declared.line.Content.{Content}
 use Rattle.entries.specs.declared.line.Line.{Line}
-use Rattle.replaying.specs.Frames.{refusedRow, columnsOf}
+use Rattle.replaying.specs.Frames.{dashedRow, columnsOf}
 use Rattle.replaying.specs.Steps.{follows}
 use Rattle.replaying.specs.declared.frame.Shown.{Shown}
 use Rattle.replaying.specs.declared.frame.Row.{Row}
@@ -85,8 +85,8 @@ module _ (set : Set) where
   movedBy s (Line.Entry e) = cond (follows (s .last) (e .frame)) (countedLine s (e .frame) (e .content)) (skippedLine s)
 
   abbrev pub rowOf : Between → Line → Row
-  rowOf s Line.Malformed = refusedRow MalformedLine
-  rowOf s (Line.Entry e) = cond (follows (s .last) (e .frame)) (calledRow (s .decoder) (e .content)) (refusedRow WrongFrameNumber)
+  rowOf s Line.Malformed = dashedRow MalformedLine
+  rowOf s (Line.Entry e) = cond (follows (s .last) (e .frame)) (calledRow (s .decoder) (e .content)) (dashedRow WrongFrameNumber)
 
   abbrev pub replayRules : Rules
   replayRules =

@@ -17,11 +17,11 @@ use Rattle.entries.specs.declared.line.Content.{Content}
 use Rattle.replaying.specs.declared.frame.Columns.{Columns}
 use Rattle.replaying.specs.declared.frame.Shown.{Shown}
 use Rattle.replaying.specs.declared.frame.Row.{Row}
-use Rattle.replaying.specs.declared.frame.Followed.{Followed}
+use Rattle.replaying.specs.declared.frame.Played.{Played}
 
--- a refused line shows dashes, and so does a loss mark, whose answer is 0
-abbrev pub refusedRow : Answer → Row
-refusedRow answer = record { answer = answer; shown = Shown.Dashes }
+-- a refused line shows dashes, and so does a lost line, whose answer is 0
+abbrev pub dashedRow : Answer → Row
+dashedRow answer = record { answer = answer; shown = Shown.Dashes }
 
 -- what an accepted frame shows of its plan, and the settled report
 abbrev pub columnsOf : Plan → Bool → Columns
@@ -41,22 +41,22 @@ judgedWith r side (Configured.Config c) = judgedSide r c side
 unfoldable pub judgedBare : Registers → SideInfo → Verdict
 judgedBare r side = judgedWith r side (fitConfig r)
 
-abbrev pub acceptedAs : Plan → Registers → Followed
+abbrev pub acceptedAs : Plan → Registers → Played
 acceptedAs plan next = record { registers = next; row = record { answer = Done; shown = Shown.Columns (columnsOf plan (next .settled)) } }
 
 -- a refused frame changes nothing; an accepted one moves the registers on
-abbrev pub followedBy : Registers → Verdict → Followed
-followedBy r (Verdict.Refused answer) = record { registers = r; row = refusedRow answer }
-followedBy r (Verdict.Accepted plan) = acceptedAs plan (nextRegisters r plan (bareTaps plan))
+abbrev pub playedBy : Registers → Verdict → Played
+playedBy r (Verdict.Refused answer) = record { registers = r; row = dashedRow answer }
+playedBy r (Verdict.Accepted plan) = acceptedAs plan (nextRegisters r plan (bareTaps plan))
 
 -- a loss mark checks 9 only
-abbrev pub lostWith : Registers → Configured → Followed
-lostWith r (Configured.Refused answer) = record { registers = r; row = refusedRow answer }
-lostWith r (Configured.Config c) = record { registers = unsettled r; row = refusedRow Done }
+abbrev pub lostWith : Registers → Configured → Played
+lostWith r (Configured.Refused answer) = record { registers = r; row = dashedRow answer }
+lostWith r (Configured.Config c) = record { registers = unsettled r; row = dashedRow Done }
 
-unfoldable pub lostBare : Registers → Followed
+unfoldable pub lostBare : Registers → Played
 lostBare r = lostWith r (fitConfig r)
 
-abbrev pub replayedContent : Registers → Content → Followed
+abbrev pub replayedContent : Registers → Content → Played
 replayedContent r Content.Lost = lostBare r
-replayedContent r (Content.Frame side) = followedBy r (judgedBare r side)
+replayedContent r (Content.Frame side) = playedBy r (judgedBare r side)

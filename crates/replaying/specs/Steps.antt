@@ -9,8 +9,8 @@ use Rattle.control.specs.declared.registers.Registers.{Registers}
 use Rattle.entries.specs.Lines.{lineRead}
 use Rattle.entries.specs.declared.line.Entry.{Entry}
 use Rattle.entries.specs.declared.line.Line.{Line}
-use Rattle.replaying.specs.Frames.{refusedRow, replayedContent}
-use Rattle.replaying.specs.declared.frame.Followed.{Followed}
+use Rattle.replaying.specs.Frames.{dashedRow, replayedContent}
+use Rattle.replaying.specs.declared.frame.Played.{Played}
 use Rattle.replaying.specs.declared.step.Last.{Last}
 use Rattle.replaying.specs.declared.step.Stepped.{Stepped}
 
@@ -21,10 +21,10 @@ follows (Last.Frame before) frame = eqb frame (before + 1)
 
 -- a line that is answered 10 or 11 does not count, and changes nothing
 abbrev pub skipped : Last → Registers → Answer → Stepped
-skipped last r answer = record { last = last; registers = r; row = refusedRow answer }
+skipped last r answer = record { last = last; registers = r; row = dashedRow answer }
 
 -- any other line counts
-abbrev pub counted : ℕ → Followed → Stepped
+abbrev pub counted : ℕ → Played → Stepped
 counted frame f = record { last = Last.Frame frame; registers = f .registers; row = f .row }
 
 unfoldable pub steppedEntry : Last → Registers → Entry → Stepped

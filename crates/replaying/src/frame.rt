@@ -15,7 +15,7 @@ use lag::rescale::Lag;
 use rates::answer::Answer;
 use rates::config::Configured;
 ghost use mathlib.Core.Path.{_≡_};
-ghost use Rattle.replaying.specs.Frames.{refusedRow, bareTaps, columnsOf, judgedBare, followedBy, lostBare, replayedContent};
+ghost use Rattle.replaying.specs.Frames.{dashedRow, bareTaps, columnsOf, judgedBare, playedBy, lostBare, replayedContent};
 
 // What the row of an accepted frame shows.
 pub struct Columns {
@@ -37,14 +37,14 @@ pub struct Row {
 }
 
 // The registers after a line's content, and the line's row.
-pub struct Followed {
+pub struct Played {
     pub registers: Registers,
     pub row: Row,
 }
 
 // A row of dashes.
-pub(crate) fn refused_row(answer: Answer) -> Row
-    ensures { λ r. ⌜ r ≡ refusedRow answer ⌝ }
+pub(crate) fn dashed_row(answer: Answer) -> Row
+    ensures { λ r. ⌜ r ≡ dashedRow answer ⌝ }
 {
     Row {
         answer,
@@ -67,6 +67,7 @@ fn bare_filter(plan: Plan) -> Taps
     }
 }
 
+// What the row of a frame shows of its plan.
 fn columns_of(plan: Plan, settled: bool) -> Columns
     ensures { λ r. ⌜ r ≡ columnsOf plan settled ⌝ }
 {
@@ -93,17 +94,17 @@ fn judge_bare(registers: Registers, side: SideInfo) -> Verdict
 }
 
 // What a verdict leads to.
-fn follow(registers: Registers, verdict: Verdict) -> Followed
-    ensures { λ r. ⌜ r ≡ followedBy registers verdict ⌝ }
+fn play(registers: Registers, verdict: Verdict) -> Played
+    ensures { λ r. ⌜ r ≡ playedBy registers verdict ⌝ }
 {
     match verdict {
-        Verdict::Refused(answer) => Followed {
+        Verdict::Refused(answer) => Played {
             registers,
-            row: refused_row(answer),
+            row: dashed_row(answer),
         },
         Verdict::Accepted(plan) => {
             let next = advance(registers, plan, bare_filter(plan));
-            Followed {
+            Played {
                 registers: next,
                 row: Row {
                     answer: Answer::Done,
@@ -115,30 +116,30 @@ fn follow(registers: Registers, verdict: Verdict) -> Followed
 }
 
 // A loss mark.
-fn lose(registers: Registers) -> Followed
+fn lose(registers: Registers) -> Played
     ensures { λ r. ⌜ r ≡ lostBare registers ⌝ }
 {
     match fit_config(registers) {
         Configured::Config(_) => {
             let lost = unsettle(registers);
-            Followed {
+            Played {
                 registers: lost,
-                row: refused_row(Answer::Done),
+                row: dashed_row(Answer::Done),
             }
         }
-        Configured::Refused(answer) => Followed {
+        Configured::Refused(answer) => Played {
             registers,
-            row: refused_row(answer),
+            row: dashed_row(answer),
         },
     }
 }
 
 // What came of a frame, as the decoder takes it.
-pub fn replay_content(registers: Registers, content: Content) -> Followed
+pub fn replay_content(registers: Registers, content: Content) -> Played
     ensures { λ r. ⌜ r ≡ replayedContent registers content ⌝ }
 {
     match content {
         Content::Lost => lose(registers),
-        Content::Frame(side) => follow(registers, judge_bare(registers, side)),
+        Content::Frame(side) => play(registers, judge_bare(registers, side)),
     }
 }

@@ -1,6 +1,6 @@
 // A line: whether it counts, and what comes of it.
 use crate::frame::Row;
-use crate::frame::refused_row;
+use crate::frame::dashed_row;
 use crate::frame::replay_content;
 use control::registers::Registers;
 use entries::line::Entry;
@@ -40,7 +40,7 @@ fn skip(last: Last, registers: Registers, answer: Answer) -> Stepped
     Stepped {
         last,
         registers,
-        row: refused_row(answer),
+        row: dashed_row(answer),
     }
 }
 
@@ -52,9 +52,9 @@ fn step_entry(last: Last, registers: Registers, entry: Entry) -> Stepped
     if !follows(last, entry.frame) {
         return skip(last, registers, Answer::WrongFrameNumber);
     }
-    let followed = replay_content(registers, content);
-    let next = followed.registers;
-    let row = followed.row;
+    let played = replay_content(registers, content);
+    let next = played.registers;
+    let row = played.row;
     Stepped {
         last: Last::Frame(entry.frame),
         registers: next,

@@ -6,11 +6,11 @@ use Rattle.replaying.proofs.frame.lose.Tie as tie
 
 returns : tie.Need-returns
 unfolding lostBare
-returns c = rw (c .refused-row .ensures, c .before .unsettle .ensures, ← c .before .before .before .before .fit-config .ensures, c .before .before .enum-told .given .1)
+returns c = rw (c .dashed-row .ensures, c .before .unsettle .ensures, ← c .before .before .before .before .fit-config .ensures, c .before .before .enum-told .given .1)
 
 returns-2 : tie.Need-returns-2
 unfolding lostBare
-returns-2 c = rw (c .refused-row2 .ensures, ← c .before .before .before .before .fit-config .ensures, c .before .before .answer .given .1)
+returns-2 c = rw (c .dashed-row2 .ensures, ← c .before .before .before .before .fit-config .ensures, c .before .before .answer .given .1)
 
 pub lose-spec : {M : Type 1} → statement M
 lose-spec =

@@ -1,10 +1,10 @@
--- `follow` goes by the verdict.
+-- `play` goes by the verdict.
 use borrow.Author.Needs.{needs}
-use Rattle.replaying.proofs.frame.follow.Statement.{statement}
-use Rattle.replaying.proofs.frame.follow.Tie as tie
+use Rattle.replaying.proofs.frame.play.Statement.{statement}
+use Rattle.replaying.proofs.frame.play.Tie as tie
 
 returns : tie.Need-returns
-returns c = rw (c .refused-row .ensures, c .before .before .verdict .given .1)
+returns c = rw (c .dashed-row .ensures, c .before .before .verdict .given .1)
 
 returns-2 : tie.Need-returns-2
 returns-2 c =
@@ -15,8 +15,8 @@ returns-2 c =
       c .before .before .before .before .verdict2 .given .1,
     )
 
-pub follow-spec : {M : Type 1} → statement M
-follow-spec =
+pub play-spec : {M : Type 1} → statement M
+play-spec =
     tie.close
     (tie.spec
     (λ c. search needs)
