@@ -1,7 +1,7 @@
 -- What some lines leave, and the calls that they make of the decoder.
+use Prim.Native.Nat.{ℕ}
 use mathlib.Core.Bool.{cond}
 use mathlib.Core.List.{List, [], _∷_}
-use Prim.Native.Nat.{ℕ}
 use lib.ListN.{replicate}
 use Rattle.floats.specs.Single.{0·0}
 use Rattle.control.specs.declared.registers.Registers.{Registers}
