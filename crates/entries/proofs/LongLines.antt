@@ -1,27 +1,22 @@
 -- A line of 32 bytes or more is malformed: three numbers of nine digits, one of one digit and three tabs are 31.
-use Prim.Native.Nat.{ℕ, _+_, _≤_, _<_, min}
-use mathlib.Core.Path.{_≡_, refl, sym, _∙_}
+use Prim.Native.Nat.{ℕ, _+_, _≤_, _<_}
+use mathlib.Core.Path.{_≡_, refl}
 use mathlib.Core.Bool.{Bool, true, false, cond}
 use mathlib.Core.List.{List}
 use native.Mathlib.Omega.{arith}
-use borrow.Author.Tests.{ne-eqb, le-leb, lt-leb, leb-true, leb-false, ltb-true}
+use borrow.Author.Tests.{ne-eqb, leb-true, leb-false, ltb-true}
 use lib.Dec.{leb}
 use lib.ListN.{length, take, length-drop}
-use lib.Seq.{length-take-le, take-all}
+use lib.Seq.{length-take-le}
 use Rattle.lines.specs.Fields.{tabAt, numberOf, fieldOf}
 use Rattle.lines.specs.declared.field.Field.{Field}
 use Rattle.lines.specs.declared.field.Number.{Number}
+use Rattle.lines.proofs.Numbers.{long-number, long-field}
+use Rattle.lines.proofs.HeldLines.{first-32}
 use Rattle.entries.specs.declared.side.Side.{Side}
 use Rattle.entries.specs.declared.line.Line.{Line}
 use Rattle.entries.specs.Sides.{hasTab, beforeTab, afterTab, sideOf, marksRead, sideRead}
 use Rattle.entries.specs.Lines.{numbered, withNumber, lineRead}
-
-long-number : (most : ℕ) (s : List ℕ) → min most 9 < length s → numberOf most s ≡ Number.Malformed
-unfolding numberOf
-long-number most s h = rw (le-leb 1 (length s) (omega arith), lt-leb (length s) (min most 9) h)
-
-long-field : (s : List ℕ) → 9 < length s → fieldOf 9 s ≡ Field.Malformed
-long-field s h = rw (ne-eqb (length s) 1 (λ e. omega arith), long-number 9 s h)
 
 -- with a tab in more than a + 1 + b bytes, more than a stand before it or more than b after it
 parted : {A : Type 0} (a b : ℕ) (s : List ℕ) (x y : A) → a + 1 + b < length s →
@@ -66,7 +61,7 @@ long-side : (s : List ℕ) → 21 < length s → sideRead s ≡ Side.Malformed
 unfolding sideRead
 long-side s h =
     parted 9 11 s _ _ h
-    (λ l. rw (long-field (beforeTab s) l) (no-pitch-text (afterTab s)))
+    (λ l. rw (long-field 9 (beforeTab s) (omega arith) l) (no-pitch-text (afterTab s)))
     (long-marks (fieldOf 9 (beforeTab s)) (afterTab s))
 
 long-rest : (number : Number) (s : List ℕ) → 21 < length s → withNumber number s ≡ Line.Malformed
@@ -80,10 +75,4 @@ long-line s h = parted 9 21 s _ _ (omega arith) (λ l. rw (long-number 9 (before
 
 -- so its first 32 bytes are read as the line is, and they are all that is held
 pub first-bytes : (s : List ℕ) → lineRead (take 32 s) ≡ lineRead s
-first-bytes s = go (leb (length s) 32) refl
-  where
-    go : (t : Bool) → leb (length s) 32 ≡ t → lineRead (take 32 s) ≡ lineRead s
-    go true p = rw (take-all 32 s (leb-true _ _ p))
-    go false p =
-        let l : 32 < length s = leb-false (length s) 32 p in
-        long-line (take 32 s) (rw (length-take-le 32 s (omega arith)) (omega arith)) ∙ sym (long-line s (omega arith))
+first-bytes s = first-32 lineRead Line.Malformed long-line s

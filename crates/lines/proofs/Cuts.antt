@@ -8,6 +8,7 @@ use native.Mathlib.Omega.{arith}
 use borrow.Author.Tests.{lt-ltb, le-ltb}
 use lib.Dec.{eqb, ltb}
 use lib.ListN.{length, take, drop}
+use lib.Seq.{take-add}
 use Rattle.lines.specs.Fields.{byteAt}
 use Rattle.lines.specs.Listings.{Rules}
 use Rattle.lines.specs.Machine.{heldStep, heldAfter, stateStep, emitted, stateAfter, text, taken}
@@ -17,6 +18,12 @@ pub held-append : (h : Held) (a b : List ℕ) → heldAfter h (a ++ b) ≡ heldA
 unfolding heldAfter
 held-append h [] b = refl
 held-append h (x ∷ a) b = held-append (heldStep h x) a b
+
+-- a machine that was fed the first bytes of an input, and is then fed the next ones
+pub fed-on : {M : Type 0} (after : M → List ℕ → M) → ((m : M) (a b : List ℕ) → after m (a ++ b) ≡ after (after m a) b) →
+    (m₀ m m′ : M) (l : List ℕ) (at used : ℕ) (part : List ℕ) → m ≡ after m₀ (take at l) → part ≡ take used (drop at l) → m′ ≡ after m part →
+    m′ ≡ after m₀ (take (at + used) l)
+fed-on after append m₀ m m′ l at used part e p f = f ∙ rw (p, e, take-add at used l) (sym (append m₀ (take at l) (take used (drop at l))))
 
 module _ (L : Rules) where
   pub state-append : (s : L .State) (h : Held) (a b : List ℕ) →

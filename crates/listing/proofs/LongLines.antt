@@ -1,27 +1,22 @@
 -- A line of 12 bytes or more is malformed: two fields of five bytes and a tab are eleven.
 use Prim.Native.Nat.{ℕ, _+_, _≤_, _<_}
-use mathlib.Core.Path.{_≡_, refl, sym, _∙_}
+use mathlib.Core.Path.{_≡_, refl}
 use mathlib.Core.Bool.{Bool, true, false, cond}
 use mathlib.Core.List.{List}
 use native.Mathlib.Omega.{arith}
-use borrow.Author.Tests.{ne-eqb, le-leb, lt-leb, leb-true, leb-false, ltb-true}
+use borrow.Author.Tests.{leb-true, leb-false, ltb-true}
 use lib.Dec.{leb, ltb}
-use lib.ListN.{length, take, drop, length-drop, length-take}
-use lib.Seq.{length-take-le, take-all}
-use Rattle.lines.specs.Fields.{tabAt, numberOf, fieldOf}
+use lib.ListN.{length, take, drop, length-drop}
+use lib.Seq.{length-take-le}
+use Rattle.lines.specs.Fields.{tabAt, fieldOf}
 use Rattle.lines.specs.declared.field.Field.{Field}
 use Rattle.lines.specs.declared.field.Number.{Number}
 use Rattle.rates.specs.declared.answer.Answer.{Answer}
 use Rattle.lines.specs.Listings.{Decided}
+use Rattle.lines.proofs.Numbers.{long-field}
+use Rattle.lines.proofs.HeldLines.{first-32}
 use Rattle.listing.specs.Whole.{lagRules}
 use Rattle.listing.specs.Rows.{answerTo, lookedUp, refusedRow}
-
-long-number : (s : List ℕ) → 5 < length s → numberOf 5 s ≡ Number.Malformed
-unfolding numberOf
-long-number s h = rw (le-leb 1 (length s) (omega arith), lt-leb (length s) 5 h)
-
-long-field : (s : List ℕ) → 5 < length s → fieldOf 5 s ≡ Field.Malformed
-long-field s h = rw (ne-eqb (length s) 1 (λ e. omega arith), long-number s h)
 
 no-index : (f : Field) → lookedUp f Field.Malformed ≡ refusedRow Answer.MalformedLine
 no-index Field.Dash = refl
@@ -36,10 +31,10 @@ long-side s t h k = go (leb t 5) refl
     go : (b : Bool) → leb t 5 ≡ b → lookedUp (fieldOf 5 (take t s)) (fieldOf 5 (drop (t + 1) s)) ≡ refusedRow Answer.MalformedLine
     go true p =
         let l : 5 < length (drop (t + 1) s) = simp length-drop (omega (arith, leb-true t 5 p)) in
-        rw (long-field (drop (t + 1) s) l) (no-index (fieldOf 5 (take t s)))
+        rw (long-field 5 (drop (t + 1) s) (omega arith) l) (no-index (fieldOf 5 (take t s)))
     go false p =
         let l : 5 < length (take t s) = rw (length-take-le t s (omega arith)) (leb-false t 5 p) in
-        rw (long-field (take t s) l)
+        rw (long-field 5 (take t s) (omega arith) l)
 
 long-line : (s : List ℕ) → 12 ≤ length s → answerTo s ≡ refusedRow Answer.MalformedLine
 unfolding answerTo
@@ -52,14 +47,5 @@ long-line s h = go (ltb (tabAt s) (length s)) refl
     go false p = refl
 
 -- so its first 32 bytes are answered as the line is, and they are all that is held
-first-bytes : (s : List ℕ) → answerTo (take 32 s) ≡ answerTo s
-first-bytes s = go (leb (length s) 32) refl
-  where
-    go : (b : Bool) → leb (length s) 32 ≡ b → answerTo (take 32 s) ≡ answerTo s
-    go true p = rw (take-all 32 s (leb-true _ _ p))
-    go false p =
-        let l : 32 < length s = leb-false (length s) 32 p in
-        long-line (take 32 s) (rw (length-take-le 32 s (omega arith)) (omega arith)) ∙ sym (long-line s (omega arith))
-
 pub decided : Decided lagRules
-decided = record { moves = λ s line. refl; answers = λ s line. rw (first-bytes line) }
+decided = record { moves = λ s line. refl; answers = λ s line. rw (first-32 answerTo (refusedRow Answer.MalformedLine) (λ l h. long-line l (omega arith)) line) }

@@ -7,7 +7,7 @@ use libc::STDOUT_FILENO;
 
 // The bytes of the input, 0 where nothing is to be shown; those that were read; when the line was last
 // written, in seconds, or the run began; and whether it stands there.
-pub struct Progress {
+pub(crate) struct Progress {
     size: u64,
     done: u64,
     at: u64,
@@ -44,7 +44,7 @@ fn size_of(fd: i32) -> u64 {
 }
 
 // Before the first byte.
-pub fn begin(fd: i32) -> Progress {
+pub(crate) fn begin(fd: i32) -> Progress {
     let mut size = 0;
     if libc::isatty(STDERR_FILENO) == 1 {
         size = size_of(fd);
@@ -67,7 +67,7 @@ fn write_line(done: u64, size: u64) {
 
 // After n bytes more. The time comes in whole seconds, so two lines whose times differ by two are more
 // than a second apart.
-pub fn show(progress: Progress, n: usize) -> Progress {
+pub(crate) fn show(progress: Progress, n: usize) -> Progress {
     let done = std::num::wrapping_add_u64(progress.done, n as u64);
     let size = progress.size;
     let mut at = progress.at;
@@ -89,7 +89,7 @@ pub fn show(progress: Progress, n: usize) -> Progress {
 }
 
 // Leaves an empty line where one was written.
-pub fn clear(progress: Progress) -> Progress {
+pub(crate) fn clear(progress: Progress) -> Progress {
     if progress.is_shown {
         io::write_all(
             STDERR_FILENO,
@@ -105,7 +105,7 @@ pub fn clear(progress: Progress) -> Progress {
 }
 
 // Before rows are written: on a terminal they would go on in the line.
-pub fn make_way(progress: Progress) -> Progress {
+pub(crate) fn make_way(progress: Progress) -> Progress {
     if libc::isatty(STDOUT_FILENO) == 1 {
         return clear(progress);
     }

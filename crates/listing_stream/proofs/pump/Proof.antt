@@ -1,15 +1,14 @@
 -- `pump` goes on until all of its input is taken: each turn takes at least a byte.
-use Prim.Native.Nat.{ℕ, _+_, _-_, _≤_}
+use Prim.Native.Nat.{_-_, _≤_}
 use mathlib.Core.Path.{_≡_, sym, _∙_}
 use mathlib.Core.Bool.{true≢false}
-use mathlib.Core.List.{List}
 use native.Mathlib.Omega.{arith}
 use borrow.Author.Needs.{needs}
 use lib.ListN.{length, take, drop, length-drop}
-use lib.Seq.{length-take-le, take-add, take-take, take-all}
+use lib.Seq.{length-take-le, take-take, take-all}
 use Rattle.lines.specs.Machine.{stateAfter, heldAfter}
+use Rattle.lines.proofs.Cuts.{fed-on}
 use Rattle.listing.specs.Machine.{after}
-use Rattle.listing.specs.declared.machine.Listing.{Listing}
 use Rattle.listing.proofs.WholeInput.{after-append}
 use Rattle.listing_stream.proofs.pump.Statement.{statement}
 use Rattle.listing_stream.proofs.pump.Tie as tie
@@ -19,11 +18,6 @@ Inv-loop input out₀ listing₀ at₀ out listing at = (at ≤ length input) ×
 
 abbrev μ-loop : tie.MeasureT-loop
 μ-loop input out₀ listing₀ at₀ out listing at = length input - at
-
--- what was taken before, and what is taken now
-joined : (m₀ m m′ : Listing) (l : List ℕ) (at used : ℕ) (part : List ℕ) → m ≡ after m₀ (take at l) → part ≡ take used (drop at l) →
-    m′ ≡ after m part → m′ ≡ after m₀ (take (at + used) l)
-joined m₀ m m′ l at used part e p f = f ∙ rw (p, e, take-add at used l) (sym (after-append m₀ (take at l) (take used (drop at l))))
 
 loop-holds : tie.Need-loop-holds Inv-loop μ-loop
 unfolding stateAfter heldAfter
@@ -48,7 +42,7 @@ loop-again c =
     length-take-le (length l - at) (drop at l) (simp length-drop (omega arith)) in
     let part : take used (take (length l - at) (drop at l)) ≡ take used (drop at l) =
     take-take used (length l - at) (drop at l) (omega arith) in
-    (omega arith, search needs, joined _ _ _ l at used _ (c .before .before .before .before .before .before .before .before .before .before .before .before .before .loop .inv .2) part (fed .1 .0))
+    (omega arith, search needs, fed-on after after-append _ _ _ l at used _ (c .before .before .before .before .before .before .before .before .before .before .before .before .before .loop .inv .2) part (fed .1 .0))
 
 returns-3 : tie.Need-returns-3 Inv-loop μ-loop
 returns-3 c = λ _. c .before .loop .inv .2 ∙ rw (take-all (c .before .loop .at) (c .before .before .before .before .args .input .now) (omega arith))

@@ -3,7 +3,7 @@ use Prim.Native.Nat.{ℕ, _≤_, _<_, _+_, _-_, _*_, _^_, min}
 use mathlib.Core.Path.{_≡_, sym, _∙_}
 use mathlib.Core.List.{List}
 use native.Mathlib.Numerals.{add-one}
-use native.Mathlib.Nat.{pow-succ', pow-le-pow-right}
+use native.Mathlib.Nat.{pow-le-pow-right}
 use native.Mathlib.Omega.{arith}
 use borrow.Author.Needs.{needs}
 use borrow.Author.Tests.{le-leb, lt-leb}
@@ -12,6 +12,7 @@ use lib.ListN.{drop, getD, length}
 use lib.Seq.{drop-cons, drop-length}
 use Rattle.lines.specs.Fields.{digitsAfter, numberOf}
 use Rattle.lines.specs.declared.field.Number.the-variants.{Malformed}
+use Rattle.lines.proofs.Numbers.{long-number, below}
 use Rattle.lines.proofs.field.read_number.Statement.{statement}
 use Rattle.lines.proofs.field.read_number.Tie as tie
 
@@ -22,14 +23,10 @@ Inv-loop s most value₀ i₀ i-end value i =
 abbrev μ-loop : tie.MeasureT-loop
 μ-loop s most value₀ i₀ i-end value i = i-end - i
 
--- a length outside 1 to `most`, or above 9, is refused, and any other is read
+-- an empty text is refused, as one that is too long, and any other is read
 short : (most : ℕ) (s : List ℕ) → length s ≡ 0 → numberOf most s ≡ Malformed
 unfolding numberOf
 short most s e = rw (lt-leb 1 (length s) (omega arith))
-
-long : (most : ℕ) (s : List ℕ) → 0 < length s → min most 9 < length s → numberOf most s ≡ Malformed
-unfolding numberOf
-long most s h l = rw (le-leb 1 (length s) h, lt-leb (length s) (min most 9) l)
 
 right : (most : ℕ) (s : List ℕ) → 0 < length s → length s ≤ min most 9 → numberOf most s ≡ digitsAfter 0 s
 unfolding numberOf
@@ -49,10 +46,7 @@ digit : (v : ℕ) (s : List ℕ) (i : ℕ) → i < length s → 48 ≤ getD s i 
 unfolding digitsAfter
 digit v s i h l u = rw (drop-cons s i 0, le-leb 48 (getD s i 0) l, le-leb (getD s i 0) 57 u, add-one)
 
--- one digit more keeps the value below the next power, and at most nine digits below 10 ^ 9
-below : (v d i : ℕ) → v < 10 ^ i → d ≤ 9 → 10 * v + d < 10 ^ (i + 1)
-below v d i h k = rw (add-one, pow-succ') (omega arith)
-
+-- before the ninth digit the value is below 10 ^ 8
 bounded : (v i : ℕ) → v < 10 ^ i → i < 9 → v < 10 ^ 8
 bounded v i h k = omega (arith, pow-le-pow-right {n = 10} (lit< tt) {i = i} {j = 8} (omega arith))
 
@@ -63,10 +57,10 @@ returns : tie.Need-returns Inv-loop μ-loop
 returns c = sym (short _ _ (c .if1 .taken))
 
 returns-2 : tie.Need-returns-2 Inv-loop μ-loop
-returns-2 c = sym (long (c .before .before .args .most) (c .before .before .args .s .now) (omega arith) (omega arith))
+returns-2 c = sym (long-number (c .before .before .args .most) (c .before .before .args .s .now) (omega arith))
 
 returns-3 : tie.Need-returns-3 Inv-loop μ-loop
-returns-3 c = sym (long (c .before .before .before .args .most) (c .before .before .before .args .s .now) (omega arith) (omega arith))
+returns-3 c = sym (long-number (c .before .before .before .args .most) (c .before .before .before .args .s .now) (omega arith))
 
 loop-holds : tie.Need-loop-holds Inv-loop μ-loop
 loop-holds c = (search needs, search needs, search needs, search needs, right (c .before .before .before .args .most) (c .before .before .before .args .s .now) (omega arith) (omega arith))
