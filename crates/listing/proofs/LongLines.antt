@@ -10,7 +10,6 @@ use lib.ListN.{length, take, drop, length-drop}
 use lib.Seq.{length-take-le}
 use Rattle.lines.specs.Fields.{tabAt, fieldOf}
 use Rattle.lines.specs.declared.field.Field.{Field}
-use Rattle.lines.specs.declared.field.Number.{Number}
 use Rattle.rates.specs.declared.answer.Answer.{Answer}
 use Rattle.lines.specs.Listings.{Decided}
 use Rattle.lines.proofs.Numbers.{long-field}
