@@ -19,10 +19,10 @@ pub enum FoundLag {
 pub fn rescale(r: u32, quarters: u16) -> Lag
     ensures { λ l. ⌜ l ≡ lagOf r quarters ⌝ }
 {
-    let p_up = (5 * r as usize * quarters as usize + 4) / 8;
+    let p_up = (5 * r as usize * quarters as usize + 4) >> 3;
     Lag {
-        whole: p_up / 4,
-        quarter: p_up % 4,
+        whole: p_up >> 2,
+        quarter: p_up & 3,
     }
 }
 

@@ -1,11 +1,15 @@
 -- `put_digits` writes the digits above the last by calling itself, and then the last.
 use native.Mathlib.Omega.{arith}
-use lib.ListN.{length-set}
+use mathlib.Core.Path.{_≡_}
+use lib.ListN.{length, length-set}
+use Rattle.lines.specs.Decimal.{decimal}
 use Rattle.lines.proofs.Decimals.{decimal-one, decimal-more, length-one, length-more}
 use Rattle.lines.proofs.Stores.{sets-append}
-use Prim.Native.Nat.{ℕ, _<_}
+use Prim.Native.Nat.{ℕ, _+_, _/_, _≤_, _<_}
+use borrow.Author.Needs.{needs}
 use borrow.Fn.Kinds.{In}
 use borrow.Fn.PlainCycle.{Measures, is, falls, and}
+use Rattle.lines.proofs.decimal.in_tens.Reads as in-tens
 use Rattle.lines.proofs.decimal.put_digits.Reads as put-digits
 use Rattle.lines.proofs.decimal.put_digits.Kinds as put-digits-kinds
 use Rattle.lines.proofs.decimal.+put_digits.Lts-put_digits as put-digits-lts
@@ -15,118 +19,74 @@ use Rattle.lines.proofs.decimal.+put_digits.Tie.{close}
 abbrev μ-put-digits : Measures 1 put-digits-kinds.ps ℕ
 μ-put-digits κs a = a .1 .1 .0
 
-abbrev put-digits-at : ℕ → In 1 put-digits-kinds.ps
-put-digits-at t =
-    and 1 put-digits-kinds.ps (is 1 put-digits-kinds.ps μ-put-digits t) put-digits.Pre
+-- the tens have one digit less
+shorter : {n q : ℕ} → 10 ≤ n → q ≡ n / 10 → length (decimal n) ≡ length (decimal q) + 1
+shorter {n} {q} h t = rw (length-more n h, t)
 
-abbrev put-digits-below : ℕ → In 1 put-digits-kinds.ps
-put-digits-below t =
-    and 1 put-digits-kinds.ps (falls 1 put-digits-kinds.ps _<_ μ-put-digits t) put-digits.Pre
+module _ (t : ℕ) where
+  abbrev at-t : In 1 put-digits-kinds.ps
+  at-t = and 1 put-digits-kinds.ps (is 1 put-digits-kinds.ps μ-put-digits t) put-digits.Pre
 
-put-digits-cast-out :
-    (t : ℕ) →
-    put-digits-lts.Need-cast-out
-    (put-digits-below t, put-digits.Post)
-    (put-digits-at t)
-    put-digits.Post
-put-digits-cast-out t c = omega arith
+  abbrev below-t : In 1 put-digits-kinds.ps
+  below-t = and 1 put-digits-kinds.ps (falls 1 put-digits-kinds.ps _<_ μ-put-digits t) put-digits.Pre
 
-put-digits-add-out :
-    (t : ℕ) →
-    put-digits-lts.Need-add-out
-    (put-digits-below t, put-digits.Post)
-    (put-digits-at t)
-    put-digits.Post
-put-digits-add-out t c = omega arith
+  -- what it calls: `in_tens`, and itself at a smaller number
+  abbrev called : put-digits-lts.Claims
+  called = (in-tens.Asked, in-tens.Learnt, below-t, put-digits.Post)
 
-put-digits-slice-write-out : (t : ℕ) → put-digits-lts.Need-slice-write-out (
-  put-digits-below t,
-  put-digits.Post,
-) (put-digits-at t) put-digits.Post
-put-digits-slice-write-out t c = omega (arith, length-one _ (c .if1 .taken))
+  cast-out : put-digits-lts.Need-cast-out called at-t put-digits.Post
+  cast-out c = omega arith
 
-put-digits-add-result : (t : ℕ) → put-digits-lts.Need-add-result (
-  put-digits-below t,
-  put-digits.Post,
-) (put-digits-at t) put-digits.Post
-put-digits-add-result t c = omega (arith, length-one _ (c .if1 .taken))
+  add-out : put-digits-lts.Need-add-out called at-t put-digits.Post
+  add-out c = omega arith
 
-put-digits-same-length : (t : ℕ) → put-digits-lts.Need-same-length (
-  put-digits-below t,
-  put-digits.Post,
-) (put-digits-at t) put-digits.Post
-put-digits-same-length t c = simp length-set
+  slice-write-out : put-digits-lts.Need-slice-write-out called at-t put-digits.Post
+  slice-write-out c = omega (arith, length-one _ (c .if1 .taken))
 
-put-digits-returns :
-    (t : ℕ) →
-    put-digits-lts.Need-returns
-    (put-digits-below t, put-digits.Post)
-    (put-digits-at t)
-    put-digits.Post
-put-digits-returns t c = (omega (arith, length-one _ (c .if1 .taken)), rw (decimal-one _ (c .if1 .taken)))
+  add-result : put-digits-lts.Need-add-result called at-t put-digits.Post
+  add-result c = omega (arith, length-one _ (c .if1 .taken))
 
-put-digits-put-digits-requires : (t : ℕ) → put-digits-lts.Need-put-digits-requires (
-  put-digits-below t,
-  put-digits.Post,
-) (put-digits-at t) put-digits.Post
-put-digits-put-digits-requires t c κs = (omega arith, omega (arith, length-more _ (c .before .if1 .left)))
+  same-length : put-digits-lts.Need-same-length called at-t put-digits.Post
+  same-length c = simp length-set
 
-put-digits-cast-out-2 : (t : ℕ) → put-digits-lts.Need-cast-out-2 (
-  put-digits-below t,
-  put-digits.Post,
-) (put-digits-at t) put-digits.Post
-put-digits-cast-out-2 t c = omega arith
+  returns : put-digits-lts.Need-returns called at-t put-digits.Post
+  returns c = (omega (arith, length-one _ (c .if1 .taken)), rw (decimal-one _ (c .if1 .taken)))
 
-put-digits-add-out-2 : (t : ℕ) → put-digits-lts.Need-add-out-2 (
-  put-digits-below t,
-  put-digits.Post,
-) (put-digits-at t) put-digits.Post
-put-digits-add-out-2 t c = omega arith
+  put-digits-requires : put-digits-lts.Need-put-digits-requires called at-t put-digits.Post
+  put-digits-requires c κs = (omega arith, omega (arith, shorter (c .before .before .if1 .left) (c .before .in-tens .ensures .0)))
 
-put-digits-slice-write-out-2 : (t : ℕ) → put-digits-lts.Need-slice-write-out-2 (
-  put-digits-below t,
-  put-digits.Post,
-) (put-digits-at t) put-digits.Post
-put-digits-slice-write-out-2 t c = omega (arith, length-more _ (c .before .before .before .before .if1 .left))
+  add-out-2 : put-digits-lts.Need-add-out-2 called at-t put-digits.Post
+  add-out-2 c = omega arith
 
-put-digits-add-result-2 : (t : ℕ) → put-digits-lts.Need-add-result-2 (
-  put-digits-below t,
-  put-digits.Post,
-) (put-digits-at t) put-digits.Post
-put-digits-add-result-2 t c = omega (arith, length-more _ (c .before .before .before .before .if1 .left))
+  slice-write-out-2 : put-digits-lts.Need-slice-write-out-2 called at-t put-digits.Post
+  slice-write-out-2 c = omega (arith, shorter (c .before .before .before .before .before .before .if1 .left) (c .before .before .before .before .before .in-tens .ensures .0))
 
-put-digits-same-length-2 : (t : ℕ) → put-digits-lts.Need-same-length-2 (
-  put-digits-below t,
-  put-digits.Post,
-) (put-digits-at t) put-digits.Post
-put-digits-same-length-2 t c = simp length-set (c .before .before .put-digits .kept .0)
+  add-result-2 : put-digits-lts.Need-add-result-2 called at-t put-digits.Post
+  add-result-2 c = omega (arith, shorter (c .before .before .before .before .before .before .if1 .left) (c .before .before .before .before .before .in-tens .ensures .0))
 
-put-digits-returns-2 : (t : ℕ) → put-digits-lts.Need-returns-2 (
-  put-digits-below t,
-  put-digits.Post,
-) (put-digits-at t) put-digits.Post
-put-digits-returns-2 t c = (
-  omega (arith, length-more _ (c .before .before .before .before .if1 .left)),
-  rw (c .before .before .put-digits .ensures .1, c .before .before .put-digits .ensures .0, decimal-more _ (c .before .before .before .before .if1 .left), ← sets-append),
-)
+  same-length-2 : put-digits-lts.Need-same-length-2 called at-t put-digits.Post
+  same-length-2 c = simp length-set (c .before .before .before .put-digits .kept .0)
+
+  returns-2 : put-digits-lts.Need-returns-2 called at-t put-digits.Post
+  returns-2 c = (
+    omega (arith, shorter (c .before .before .before .before .before .before .if1 .left) (c .before .before .before .before .before .in-tens .ensures .0)),
+    rw (c .before .before .before .put-digits .ensures .1, c .before .before .before .put-digits .ensures .0, c .before .before .before .before .before .in-tens .ensures .0, c .before .before .before .before .before .in-tens .ensures .1, decimal-more _ (c .before .before .before .before .before .before .if1 .left), ← sets-append),
+  )
 
 pub +put-digits-spec : {M : Type 1} → statement M
-+put-digits-spec = close μ-put-digits λ t. put-digits-lts.spec (
-  put-digits-below t,
-  put-digits.Post,
-)
-    (put-digits-at t)
++put-digits-spec = close μ-put-digits λ t. put-digits-lts.spec (called t)
+    (at-t t)
     put-digits.Post
-    (put-digits-cast-out t)
-    (put-digits-add-out t)
-    (put-digits-slice-write-out t)
-    (put-digits-add-result t)
-    (put-digits-same-length t)
-    (put-digits-returns t)
-    (put-digits-put-digits-requires t)
-    (put-digits-cast-out-2 t)
-    (put-digits-add-out-2 t)
-    (put-digits-slice-write-out-2 t)
-    (put-digits-add-result-2 t)
-    (put-digits-same-length-2 t)
-    (put-digits-returns-2 t)
+    (cast-out t)
+    (add-out t)
+    (slice-write-out t)
+    (add-result t)
+    (same-length t)
+    (returns t)
+    (λ c. search needs)
+    (put-digits-requires t)
+    (add-out-2 t)
+    (slice-write-out-2 t)
+    (add-result-2 t)
+    (same-length-2 t)
+    (returns-2 t)

@@ -1,0 +1,43 @@
+-- `in_tens`: an eighth of four fifths is a tenth, or one too few, and the rest tells which.
+use Prim.Native.Nat.{_+_, _/_}
+use mathlib.Core.Path.{_≡_}
+use native.Mathlib.Omega.{arith}
+use borrow.Author.Needs.{needs}
+use Rattle.lines.proofs.decimal.in_tens.Statement.{statement}
+use Rattle.lines.proofs.decimal.in_tens.Tie as tie
+
+sub-ones : tie.Need-sub-ones
+sub-ones c = omega arith
+
+cast-ones : tie.Need-cast-t10
+cast-ones c = omega arith
+
+returns : tie.Need-returns
+returns c =
+    let tens : c .before .four-fifths .result / 8 ≡ c .before .before .args .n / 10 = omega arith in
+    (tens, omega (arith, tens))
+
+cast-ones-2 : tie.Need-cast-t11
+cast-ones-2 c = omega arith
+
+returns-2 : tie.Need-returns-2
+returns-2 c =
+    let tens : c .before .four-fifths .result / 8 + 1 ≡ c .before .before .args .n / 10 = omega arith in
+    (tens, omega (arith, tens))
+
+pub in-tens-spec : {M : Type 1} → statement M
+in-tens-spec =
+    tie.close
+    (tie.spec
+    (λ c. search needs)
+    (λ c. omega arith)
+    (λ c. omega arith)
+    (λ c. omega arith)
+    (λ c. omega arith)
+    (λ c. omega arith)
+    sub-ones
+    cast-ones
+    returns
+    (λ c. omega arith)
+    cast-ones-2
+    returns-2)
