@@ -4,7 +4,7 @@ use native.Mathlib.Omega.{arith}
 use Rattle.lines.proofs.decimal.four_fifths.Statement.{statement}
 use Rattle.lines.proofs.decimal.four_fifths.Tie as tie
 
--- e is b parts of n, where n has a of them, less k such parts of one at most
+-- e is b/a of n, or too little by at most k/a
 abbrev Near : ℕ → ℕ → ℕ → ℕ → ℕ → Type 0
 Near a b k n e = (a * e ≤ b * n) × (b * n ≤ a * e + k)
 
