@@ -23,23 +23,8 @@ near-3 n e h = omega arith
 near-4 : (n e : ℕ) → n < 2 ^ 64 → Near 1073741824 858993459 6442450944 n e → Near 5 4 40 n (e + e / 4294967296)
 near-4 n e b h = omega arith
 
-add-e : tie.Need-add-e
-add-e c = omega arith
-
-add-e-2 : tie.Need-add-e-2
-add-e-2 c = omega arith
-
-add-e-3 : tie.Need-add-e-3
-add-e-3 c = omega arith
-
-add-e-4 : tie.Need-add-e-4
-add-e-4 c = omega arith
-
-add-result : tie.Need-add-result
-add-result c = omega arith
-
 returns : tie.Need-returns
 returns c = near-4 _ _ (omega arith) (near-3 _ _ (near-2 _ _ (near-1 _ _ (near-0 (c .args .n)))))
 
 pub four-fifths-spec : {M : Type 1} → statement M
-four-fifths-spec = tie.close (tie.spec add-e add-e-2 add-e-3 add-e-4 add-result returns)
+four-fifths-spec = tie.close (tie.spec (λ c. omega arith) (λ c. omega arith) (λ c. omega arith) (λ c. omega arith) (λ c. omega arith) returns)
