@@ -30,10 +30,12 @@ fn config(hz: u32) -> Config {
 }
 
 // What the model gives for a first frame.
-fn first_frame(set: &Set, pitch: Pitch, samples: &[f32]) -> Vec<f32> {
-    let (_, mut model) = Decoder::start(8000, TEN_MS);
+fn first_frame(set: &Set, hz: u32, pitch: Pitch, samples: &[f32]) -> Vec<f32> {
+    let (_, mut model) = Decoder::start(hz, TEN_MS);
+    let fs_ind = model.config.rate.fs_ind as usize;
+    let (num, den) = (&set.numerators[fs_ind], &set.denominators[fs_ind]);
     let mut out = samples.to_vec();
-    model.frame(&set.numerators[0], &set.denominators[0], pitch, BITS, &mut out);
+    model.frame(num, den, pitch, BITS, &mut out);
     out
 }
 
@@ -42,7 +44,7 @@ fn absent_as_index_0<W: Write>(judge: &mut DecoderJudge<W>, set: &Set) {
     let samples = sparse(80, &[(1, 1.0)]);
     let mut rust = given::Decoder::start(&config(8000), 0.0);
     let theirs = rust.absent_active_frame(BITS, &samples).expect("no panic");
-    let ours = first_frame(set, None, &samples);
+    let ours = first_frame(set, 8000, None, &samples);
     eprintln!("absent as index 0, decoder: 8000 Hz, 10 ms, one frame, sample 1 is 1.0, absent but active, nbits {BITS}");
     eprintln!("  {}", first_difference(&theirs, &ours));
     judge.start(8000, TEN_MS);
@@ -55,7 +57,7 @@ fn uncleared_decoder<W: Write>(judge: &mut DecoderJudge<W>, set: &Set) {
     let zeros = vec![0.0; 80];
     let mut rust = given::Decoder::start(&config(8000), 1.0);
     let theirs = rust.frame(active(0), BITS, &zeros).expect("no panic");
-    let ours = first_frame(set, active(0), &zeros);
+    let ours = first_frame(set, 8000, active(0), &zeros);
     eprintln!("uncleared history, decoder: 8000 Hz, 10 ms, buffer of 1.0, one active frame of zeros, index 0, nbits {BITS}");
     eprintln!("  {}", first_difference(&theirs, &ours));
     judge.start(8000, TEN_MS);
@@ -93,6 +95,24 @@ fn overwritten_fade<W: Write>(judge: &mut DecoderJudge<W>, set: &Set, hz: u32, i
     judge.frame(active(0), BITS, &vec![0.0; config.frame()]);
     judge.frame(active(index), BITS, samples);
     judge.frame(active(index), BITS, samples);
+}
+
+// 44100: the given Rust has l_den 11 there and leaves out the last entry of each row, where we go by 48000. The
+// vectors have the same frames under both rates.
+fn shorter_rows_at_44100<W: Write>(judge: &mut DecoderJudge<W>, set: &Set) {
+    let samples = sparse(480, &[(0, 1.0)]);
+    let mut rust = given::Decoder::of_its_own(&config(44100));
+    let theirs = rust.frame(active(0), BITS, &samples).expect("no panic");
+    let ours = first_frame(set, 44100, active(0), &samples);
+    eprintln!("shorter rows: 44100 Hz, 10 ms, one frame, sample 0 is 1.0, active, index 0, nbits {BITS}");
+    eprintln!("  {}", first_difference(&theirs, &ours));
+    for hz in [44100, 48000] {
+        judge.start(hz, TEN_MS);
+        judge.lend(set);
+        for index in [0, 511, 511] {
+            judge.frame(active(index), BITS, &samples);
+        }
+    }
 }
 
 // For each rate, the first index whose case 5 differs at 10 ms, beside the lag of the scope's list.
@@ -189,6 +209,7 @@ pub fn decoder<W: Write>(judge: &mut DecoderJudge<W>, set: &Set) {
     overwritten_fade(judge, set, 8000, 511, &sparse(80, &[(19, 1.0)]));
     overwritten_fade(judge, set, 48000, 506, &sparse(480, &[(119, 1.0)]));
     overwritten_fade(judge, set, 44100, 506, &sparse(480, &[(119, 1.0)]));
+    shorter_rows_at_44100(judge, set);
 }
 
 // Runs the frames of a signal through both, shows both records of the last, and keeps all as vectors.

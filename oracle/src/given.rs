@@ -14,9 +14,19 @@ use files::decoder::side_info::LongTermPostFilterInfo;
 use files::encoder::long_term_post_filter::{LongTermPostFilter as EncoderFilter, LongTermPostFilterResult};
 pub use files::SOURCE;
 
-fn lc3_config(config: &Config) -> Lc3Config {
+// The rate at which the given Rust judges a rate of ours: 44100 is 48000 throughout, so its 48000 does.
+fn judging_rate(hz: u32) -> u32 {
+    if hz == 44100 {
+        48000
+    } else {
+        hz
+    }
+}
+
+// The given Rust's configuration of a rate and a duration of ours, with the rate in Hz that it is to go by.
+fn lc3_config(config: &Config, hz: u32) -> Lc3Config {
     Lc3Config {
-        fs: config.rate.hz as usize,
+        fs: hz as usize,
         fs_ind: config.rate.fs_ind as usize,
         n_ms: if config.ten_ms {
             FrameDuration::TenMs
@@ -37,9 +47,17 @@ pub struct Decoder {
 }
 
 impl Decoder {
-    // Starts on a buffer of this value: 0.0 but where uncleared history is to be shown.
+    // The judge of a decoder, on a buffer of this value: 0.0 but where uncleared history is to be shown.
     pub fn start(config: &Config, value: f32) -> Decoder {
-        let config = lc3_config(config);
+        Decoder::started(lc3_config(config, judging_rate(config.rate.hz)), value)
+    }
+
+    // What the given Rust has under the rate's own name, where that is to be shown.
+    pub fn of_its_own(config: &Config) -> Decoder {
+        Decoder::started(lc3_config(config, config.rate.hz), 0.0)
+    }
+
+    fn started(config: Lc3Config, value: f32) -> Decoder {
         let length = DecoderFilter::calc_working_buffer_length(&config);
         let buffer = Box::into_raw(vec![value; length].into_boxed_slice());
         // The buffer lives until the decoder is dropped.
@@ -104,9 +122,9 @@ pub struct Encoder {
 }
 
 impl Encoder {
-    // Starts on buffers of this value: 0 but where uncleared history is to be shown.
+    // The judge of an encoder, on buffers of this value: 0 but where uncleared history is to be shown.
     pub fn start(config: &Config, value: i16) -> Encoder {
-        let config = lc3_config(config);
+        let config = lc3_config(config, judging_rate(config.rate.hz));
         let (integer_length, scaler_length) = EncoderFilter::calc_working_buffer_length(&config);
         let integers = Box::into_raw(vec![value; integer_length].into_boxed_slice());
         let scalers = Box::into_raw(vec![value as f32; scaler_length].into_boxed_slice());

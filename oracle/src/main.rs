@@ -143,7 +143,10 @@ fn main() {
         _ => wrong("say what to make"),
     };
     let options = read_options(rest);
-    eprintln!("oracle: the given Rust is that of {}", given::SOURCE);
+    eprintln!(
+        "oracle: the given Rust is that of {}; at 44100 Hz its 48000 judges",
+        given::SOURCE
+    );
     let clean = if end == "decoder" {
         decoder(what, options)
     } else {

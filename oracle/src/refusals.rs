@@ -129,21 +129,21 @@ fn spoiled_decoder_calls<W: Write>(judge: &mut DecoderJudge<W>, set: &Set) {
     }
 }
 
-// At 44100 the lent rows are those of 48000, and the entries that are not used must be finite too.
+// At 44100 the lent rows are those of 48000, whole: shorter ones are refused, and each entry must be finite.
 fn lent_rows_of_44100<W: Write>(judge: &mut DecoderJudge<W>, set: &Set) {
     judge.start(44100, SEVEN_POINT_FIVE_MS);
     set.install();
     let good = good_decoder_call(set, 4, 0, 360);
-    let mut used = good.clone();
-    used.num.truncate(40);
-    used.den.truncate(48);
-    decoder_call(judge, &used, 3);
-    let mut unused = good.clone();
-    unused.num[10] = f32::NAN;
-    decoder_call(judge, &unused, 4);
-    let mut unused = good.clone();
-    unused.den[51] = f32::INFINITY;
-    decoder_call(judge, &unused, 4);
+    let mut shorter = good.clone();
+    shorter.num.truncate(40);
+    shorter.den.truncate(48);
+    decoder_call(judge, &shorter, 3);
+    let mut spoiled = good.clone();
+    spoiled.num[10] = f32::NAN;
+    decoder_call(judge, &spoiled, 4);
+    let mut spoiled = good.clone();
+    spoiled.den[51] = f32::INFINITY;
+    decoder_call(judge, &spoiled, 4);
     decoder_call(judge, &good, 0);
 }
 

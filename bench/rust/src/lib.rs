@@ -33,8 +33,10 @@ fn lc3_config(rate: u32, duration: u32) -> Lc3Config {
         32000 => (3, 4),
         _ => (4, 6),
     };
+    // 44100 is 48000 throughout in ours, so the Rust goes by 48000 there too: the same work, and the same bits.
+    let fs = if rate == 44100 { 48000 } else { rate as usize };
     Lc3Config {
-        fs: rate as usize,
+        fs,
         fs_ind,
         n_ms,
         nf: factor * nf_of_8000,

@@ -21,9 +21,9 @@ abbrev pub gainRow : Gain → ℕ
 gainRow Off = 0
 gainRow (On g row) = row
 
--- row r of a set whose rows have so many entries, of which the first are used
-abbrev pub rowOfSet : ℕ → ℕ → ℕ → List Float → List Float
-rowOfSet entries used r set = take used (drop (r * entries) set)
+-- row r of a set whose rows have so many entries
+abbrev pub rowOfSet : ℕ → ℕ → List Float → List Float
+rowOfSet entries r set = take entries (drop (r * entries) set)
 
 -- a gain times each entry of a row, in the place of the first of so many 0.0
 abbrev pub scaled : ℕ → Float → List Float → List Float
@@ -33,8 +33,8 @@ scaled size gain row = map (λ e. gain ⊗ e) row ++ drop (length row) (replicat
 unfoldable pub tapsOf : Rate → Gain → Lag → List Float → List Float → Taps
 tapsOf fs gain lag numerators denominators = record {
   «l_den» = fs .«l_den»;
-  «c_num» = scaled 11 (decimal 85 2 ⊗ gainValue gain) (rowOfSet (fs .«num_row») (fs .«l_den» - 1) (gainRow gain) numerators);
-  «c_den» = scaled 13 (gainValue gain) (rowOfSet (fs .«den_row») (fs .«l_den» + 1) (lag .quarter) denominators);
+  «c_num» = scaled 11 (decimal 85 2 ⊗ gainValue gain) (rowOfSet (fs .«l_den» - 1) (gainRow gain) numerators);
+  «c_den» = scaled 13 (gainValue gain) (rowOfSet (fs .«l_den» + 1) (lag .quarter) denominators);
   lag = lag;
 }
 

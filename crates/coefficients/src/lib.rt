@@ -29,13 +29,13 @@ fn scale_row(c: &mut [f32], gain: f32, row: &[f32])
     }
 }
 
-// Row r of a set of four, up to the entries that are used.
-fn row_of_set(set: &[f32], entries: usize, used: usize, r: usize) -> &[f32]
-    requires { ⌜ (r ≤ 3) × (used ≤ entries) × (length (now set) ≡ 4 * entries) ⌝ }
-    ensures { λ s. ⌜ now s ≡ rowOfSet entries used r (now (set .entry)) ⌝ }
+// Row r of a set of four, which have so many entries each.
+fn row_of_set(set: &[f32], entries: usize, r: usize) -> &[f32]
+    requires { ⌜ (r ≤ 3) × (length (now set) ≡ 4 * entries) ⌝ }
+    ensures { λ s. ⌜ now s ≡ rowOfSet entries r (now (set .entry)) ⌝ }
 {
     let from = r * entries;
-    &set[from..from + used]
+    &set[from..from + entries]
 }
 
 // The gain, 0.0 where it is off.
@@ -66,10 +66,10 @@ fn active_filter(fs: Rate, gain: Gain, lag: Lag, numerators: &[f32], denominator
     let l_den = fs.l_den;
     let value = gain_value(gain);
     let mut c_num = [0.0; 11];
-    let num = row_of_set(numerators, fs.num_row, l_den - 1, gain_row(gain));
+    let num = row_of_set(numerators, l_den - 1, gain_row(gain));
     scale_row(&mut c_num, 0.85 * value, num);
     let mut c_den = [0.0; 13];
-    let den = row_of_set(denominators, fs.den_row, l_den + 1, lag.quarter);
+    let den = row_of_set(denominators, l_den + 1, lag.quarter);
     scale_row(&mut c_den, value, den);
     Taps {
         l_den,
@@ -94,8 +94,7 @@ fn no_filter(fs: Rate) -> Taps
     }
 }
 
-// The filter of a frame, by whether it is active, and by its gain and its lag. 44100 is lent longer rows
-// than it uses.
+// The filter of a frame, by whether it is active, and by its gain and its lag.
 pub fn compute_filter_coeffs(
     fs: Rate,
     active: bool,

@@ -1,5 +1,5 @@
 -- What judging comes to, one for all registers of a configuration: a refusal that only the frame decides, or a lag to go on with.
-use Prim.Native.Nat.{ℕ, _*_, _≤_}
+use Prim.Native.Nat.{ℕ, _+_, _*_, _≤_}
 use mathlib.Core.Path.{_≡_, refl}
 use mathlib.Core.Bool.{Bool, true, false}
 use mathlib.Core.List.{List}
@@ -30,8 +30,8 @@ use Rattle.control.proofs.Sizes.{Sized}
 -- what an accepted frame has passed
 pub record Passed (c : Lc3Config) (nums dens : List Float) (side : SideInfo) (samples : List Float) (lag : Lag) : Type 0 where
   pub found : lagFor (c .fs) (side .pitch) ≡ FoundLag.Lag lag
-  pub nums-count : length nums ≡ 4 * c .fs .«num_row»
-  pub dens-count : length dens ≡ 4 * c .fs .«den_row»
+  pub nums-count : length nums + 4 ≡ 4 * c .fs .«l_den»
+  pub dens-count : length dens ≡ 4 * (c .fs .«l_den» + 1)
   pub count : length samples ≡ c .nf
 
 -- a refusal with a number from 3 to 8, or a lag to go on with
@@ -60,13 +60,13 @@ module _ (c : Lc3Config) (nums dens : List Float) (side : SideInfo) (samples : L
   ranged false e counts count l f = (declined TooManyBits (omega arith) (omega arith), λ r. refl)
   ranged true e counts count FoundLag.IndexTooLarge f = (declined IndexTooLarge (omega arith) (omega arith), λ r. refl)
   ranged true e counts count (FoundLag.Lag lag) f =
-      let n = both (eqb (length nums) (4 * c .fs .«num_row»)) (eqb (length dens) (4 * c .fs .«den_row»)) counts in
+      let n = both (eqb (length nums + 4) (4 * c .fs .«l_den»)) (eqb (length dens) (4 * (c .fs .«l_den» + 1))) counts in
       test (allInRange samples) SampleOutOfRange (omega arith) (omega arith) _
       (λ p. (
         passed lag (record {
           found = f;
-          nums-count = eqb-true (length nums) (4 * c .fs .«num_row») (n .0);
-          dens-count = eqb-true (length dens) (4 * c .fs .«den_row») (n .1);
+          nums-count = eqb-true (length nums + 4) (4 * c .fs .«l_den») (n .0);
+          dens-count = eqb-true (length dens) (4 * (c .fs .«l_den» + 1)) (n .1);
           count = count;
         }),
         λ r. refl,
@@ -98,4 +98,4 @@ accepted-plan r (Configured.Config c) nums dens side samples plan e = go (outcom
 pub lent : (c : Lc3Config) (nums dens : List Float) (side : SideInfo) (samples : List Float) (lag : Lag) → Sized c →
     Passed c nums dens side samples lag → Lent (c .fs) nums dens
 lent c nums dens side samples lag s p =
-    record { least = s .least; most = s .most; num-used = s .num-used; den-used = s .den-used; nums = p .nums-count; dens = p .dens-count }
+    record { least = s .least; most = s .most; nums = omega (arith, p .nums-count); dens = p .dens-count }

@@ -40,8 +40,6 @@ pub record Sized (c : Lc3Config) : Type 0 where
   pub rest : c .fs .fade + 8 ≤ c .nf
   pub least : 2 ≤ c .fs .«l_den»
   pub most : c .fs .«l_den» ≤ 12
-  pub num-used : c .fs .«l_den» ≤ c .fs .«num_row» + 1
-  pub den-used : c .fs .«l_den» + 1 ≤ c .fs .«den_row»
 
 pub sized : (c : Lc3Config) → FromTable c → Sized c
 sized c k =
@@ -57,6 +55,4 @@ sized c k =
       rest = rw (k .1 .frame) (bound-both (λ r d. r .fade + 8) frameOf tt tt (k .0) row (k .1 .row) d);
       least = bound-at (λ r. 2) (λ r. r .«l_den») tt (k .0) row (k .1 .row);
       most = bound-at (λ r. r .«l_den») (λ r. 12) tt (k .0) row (k .1 .row);
-      num-used = bound-at (λ r. r .«l_den») (λ r. r .«num_row» + 1) tt (k .0) row (k .1 .row);
-      den-used = bound-at (λ r. r .«l_den» + 1) (λ r. r .«den_row») tt (k .0) row (k .1 .row);
     }

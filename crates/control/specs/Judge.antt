@@ -1,5 +1,5 @@
 -- The verdict on a frame: the first refusal in the scope's order, or what the frame is to do.
-use Prim.Native.Nat.{_*_}
+use Prim.Native.Nat.{_+_, _*_}
 use mathlib.Core.Bool.{Bool, true, false, _&&_}
 use mathlib.Core.List.{List}
 use lib.Dec.{leb, eqb}
@@ -26,10 +26,10 @@ abbrev pub unless : Bool → Answer → Verdict → Verdict
 unless false answer v = Refused answer
 unless true answer v = v
 
--- each slice has four rows
+-- each slice has four rows; one of numerators has l_num + 1 entries, which is one below l_den, and one of denominators l_den + 1
 abbrev pub setCounts : Lc3Config → List Float → List Float → Bool
 setCounts c numerators denominators =
-    eqb (length numerators) (4 * c .fs .«num_row») && eqb (length denominators) (4 * c .fs .«den_row»)
+    eqb (length numerators + 4) (4 * c .fs .«l_den») && eqb (length denominators) (4 * (c .fs .«l_den» + 1))
 
 -- and each entry, used or not, is finite
 abbrev pub setFinite : List Float → List Float → Bool

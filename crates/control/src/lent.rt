@@ -17,13 +17,16 @@ fn has_rows(set: &[f32], entries: usize) -> bool
     false
 }
 
-// Whether each slice has its four rows.
+// Whether each slice has its four rows; an order of 0, which no rate has, has none.
 pub(crate) fn set_counts(config: Lc3Config, numerators: &[f32], denominators: &[f32]) -> bool
     ensures { λ r. ⌜ r ≡ setCounts config (now (numerators .entry)) (now (denominators .entry)) ⌝ }
 {
-    let fs = config.fs;
-    if has_rows(numerators, fs.num_row) {
-        return has_rows(denominators, fs.den_row);
+    let l_den = config.fs.l_den;
+    if l_den == 0 {
+        return false;
+    }
+    if has_rows(numerators, l_den - 1) {
+        return has_rows(denominators, l_den + 1);
     }
     false
 }

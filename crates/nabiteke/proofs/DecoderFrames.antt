@@ -44,15 +44,15 @@ pub record Writable (d : Decoder) : Type 0 where
   pub dens : length (d .registers .«c_den») ≡ 13
 
 -- a filter's coefficients fill their arrays
-scaled-long : (size used entries r : ℕ) (gain : Float) (set : List Float) → used ≤ size → length (scaled size gain (rowOfSet entries used r set)) ≡ size
-scaled-long size used entries r gain set h = simp (length-append, length-map, length-drop, length-replicate, length-take) (omega arith)
+scaled-long : (size entries r : ℕ) (gain : Float) (set : List Float) → entries ≤ size → length (scaled size gain (rowOfSet entries r set)) ≡ size
+scaled-long size entries r gain set h = simp (length-append, length-map, length-drop, length-replicate, length-take) (omega arith)
 
 taps-long : (fs : Rate) (gain : Gain) (lag : Lag) (nums dens : List Float) → fs .«l_den» ≤ 12 →
     (length (tapsOf fs gain lag nums dens .«c_num») ≡ 11) × (length (tapsOf fs gain lag nums dens .«c_den») ≡ 13)
 unfolding tapsOf
 taps-long fs gain lag nums dens h = (
-  scaled-long 11 (fs .«l_den» - 1) (fs .«num_row») (gainRow gain) (decimal 85 2 ⊗ gainValue gain) nums (omega arith),
-  scaled-long 13 (fs .«l_den» + 1) (fs .«den_row») (lag .quarter) (gainValue gain) dens (omega arith),
+  scaled-long 11 (fs .«l_den» - 1) (gainRow gain) (decimal 85 2 ⊗ gainValue gain) nums (omega arith),
+  scaled-long 13 (fs .«l_den» + 1) (lag .quarter) (gainValue gain) dens (omega arith),
 )
 
 module _ (d : Decoder) {plan : Plan} {nums dens frame : List Float} (j : Judged (d .registers) (d .«block_start_index») nums dens frame plan) where

@@ -23,7 +23,7 @@ pub extern "C" fn nabiteke_numerator_count(rate: u32) -> usize
     ensures { λ r. ⌜ r ≡ numeratorCount rate ⌝ }
 {
     match row_of(rate) {
-        FoundRate::Row(found) => 4 * found.num_row,
+        FoundRate::Row(found) => 4 * (found.l_den - 1),
         FoundRate::Unknown => 0,
     }
 }
@@ -34,7 +34,7 @@ pub extern "C" fn nabiteke_denominator_count(rate: u32) -> usize
     ensures { λ r. ⌜ r ≡ denominatorCount rate ⌝ }
 {
     match row_of(rate) {
-        FoundRate::Row(found) => 4 * found.den_row,
+        FoundRate::Row(found) => 4 * (found.l_den + 1),
         FoundRate::Unknown => 0,
     }
 }

@@ -3,8 +3,7 @@ ghost use mathlib.Core.Path.{_≡_};
 ghost use Rattle.rates.specs.Table.{rowOf};
 
 // A row: the rate in Hz, its number fs_ind, its multiple R of 8000, the samples of a frame at each
-// duration, the resampler's step p, the denominator's order l_den, the length of a fade, and the entries of
-// a numerator row and of a denominator row as they are lent.
+// duration, the resampler's step p, the denominator's order l_den, and the length of a fade.
 pub struct Rate {
     pub hz: u32,
     pub fs_ind: u32,
@@ -14,8 +13,6 @@ pub struct Rate {
     pub p: usize,
     pub l_den: usize,
     pub fade: usize,
-    pub num_row: usize,
-    pub den_row: usize,
 }
 
 pub const RATES: [Rate; 6] = [
@@ -28,8 +25,6 @@ pub const RATES: [Rate; 6] = [
         p: 24,
         l_den: 4,
         fade: 20,
-        num_row: 3,
-        den_row: 5,
     },
     Rate {
         hz: 16000,
@@ -40,8 +35,6 @@ pub const RATES: [Rate; 6] = [
         p: 12,
         l_den: 4,
         fade: 40,
-        num_row: 3,
-        den_row: 5,
     },
     Rate {
         hz: 24000,
@@ -52,8 +45,6 @@ pub const RATES: [Rate; 6] = [
         p: 8,
         l_den: 6,
         fade: 60,
-        num_row: 5,
-        den_row: 7,
     },
     Rate {
         hz: 32000,
@@ -64,8 +55,6 @@ pub const RATES: [Rate; 6] = [
         p: 6,
         l_den: 8,
         fade: 80,
-        num_row: 7,
-        den_row: 9,
     },
     Rate {
         hz: 44100,
@@ -74,10 +63,8 @@ pub const RATES: [Rate; 6] = [
         nf_10: 480,
         nf_7p5: 360,
         p: 4,
-        l_den: 11,
+        l_den: 12,
         fade: 120,
-        num_row: 11,
-        den_row: 13,
     },
     Rate {
         hz: 48000,
@@ -88,8 +75,6 @@ pub const RATES: [Rate; 6] = [
         p: 4,
         l_den: 12,
         fade: 120,
-        num_row: 11,
-        den_row: 13,
     },
 ];
 

@@ -45,7 +45,7 @@ use Rattle.replayed.specs.Made.{bare}
 
 -- the configuration of a replay
 abbrev pub config : Lc3Config
-config = record { fs = row 48000 4 6 480 360 4 12 120 11 13; «n_ms» = TenMs; nf = 480; history = 960 }
+config = record { fs = row 48000 4 6 480 360 4 12 120; «n_ms» = TenMs; nf = 480; history = 960 }
 
 -- the decoder before the first line has it
 pub first-fit : FitState config (first .decoder)

@@ -145,13 +145,13 @@ at-map f [] i h = absurd (omega arith)
 at-map f (x ∷ xs) zero h = refl
 at-map f (x ∷ xs) (suc i) h = at-map f xs i (omega arith)
 
-pub scaled-zero : (size entries used r : ℕ) (g : Float) → g ⊗ 0·0 ≡ 0·0 → r ≤ 3 → used ≤ entries →
-    ZeroTo used (scaled size g (rowOfSet entries used r (replicate (4 * entries) 0·0)))
-scaled-zero size entries used r g e few fits i l =
+pub scaled-zero : (size entries r : ℕ) (g : Float) → g ⊗ 0·0 ≡ 0·0 → r ≤ 3 →
+    ZeroTo entries (scaled size g (rowOfSet entries r (replicate (4 * entries) 0·0)))
+scaled-zero size entries r g e few i l =
     let set = replicate (4 * entries) 0·0 in
     let start : r * entries ≤ 3 * entries = mul-le-mul-right entries few in
     let all : length set ≡ 4 * entries = length-replicate (4 * entries) 0·0 in
-    let long : length (take used (drop (r * entries) set)) ≡ used = length-take-le used (drop (r * entries) set) (simp length-drop (omega arith)) in
-    List·getD-append (map (λ v. g ⊗ v) (take used (drop (r * entries) set))) _ nan i (rw (length-map (take used (drop (r * entries) set)) (λ v. g ⊗ v), long) l)
-    ∙ at-map (λ v. g ⊗ v) (take used (drop (r * entries) set)) i (omega arith)
-    ∙ rw (getD-take used (drop (r * entries) set) i nan l, getD-drop (r * entries) set i nan, getD-replicate (4 * entries) (r * entries + i) 0·0 nan (omega arith)) e
+    let long : length (take entries (drop (r * entries) set)) ≡ entries = length-take-le entries (drop (r * entries) set) (simp length-drop (omega arith)) in
+    List·getD-append (map (λ v. g ⊗ v) (take entries (drop (r * entries) set))) _ nan i (rw (length-map (take entries (drop (r * entries) set)) (λ v. g ⊗ v), long) l)
+    ∙ at-map (λ v. g ⊗ v) (take entries (drop (r * entries) set)) i (omega arith)
+    ∙ rw (getD-take entries (drop (r * entries) set) i nan l, getD-drop (r * entries) set i nan, getD-replicate (4 * entries) (r * entries + i) 0·0 nan (omega arith)) e

@@ -1,5 +1,5 @@
 -- A frame of 0.0 with a lent set of 0.0, inactive or active with the longest lag: every fit state accepts it.
-use Prim.Native.Nat.{ℕ, zero, suc, _+_, _*_, _<_}
+use Prim.Native.Nat.{ℕ, zero, suc, _+_, _-_, _*_, _<_}
 use mathlib.Core.Path.{_≡_, refl, _∙_, ap}
 use mathlib.Core.Bool.{Bool, true, false}
 use mathlib.Core.List.{List, _++_}
@@ -57,10 +57,10 @@ pub length-silent : (c : Lc3Config) → length (silent c) ≡ c .nf
 length-silent c = length-replicate (c .nf) 0·0
 
 abbrev pub lent-nums : Lc3Config → List Float
-lent-nums c = replicate (4 * c .fs .«num_row») 0·0
+lent-nums c = replicate (4 * (c .fs .«l_den» - 1)) 0·0
 
 abbrev pub lent-dens : Lc3Config → List Float
-lent-dens c = replicate (4 * c .fs .«den_row») 0·0
+lent-dens c = replicate (4 * (c .fs .«l_den» + 1)) 0·0
 
 -- a frame with them
 abbrev pub silence : Lc3Config → PitchRecord → Given
@@ -79,10 +79,10 @@ unfolding framed judged judgedSide
 silence-done c d s pitch lag l =
     rw (
       s .found,
-      eq-eqb (length (lent-nums c)) (4 * c .fs .«num_row») (length-replicate (4 * c .fs .«num_row») 0·0),
-      eq-eqb (length (lent-dens c)) (4 * c .fs .«den_row») (length-replicate (4 * c .fs .«den_row») 0·0),
-      finite-zeros (4 * c .fs .«num_row»),
-      finite-zeros (4 * c .fs .«den_row»),
+      eq-eqb (length (lent-nums c) + 4) (4 * c .fs .«l_den») (omega (arith, held c d s .sizes .least, length-replicate (4 * (c .fs .«l_den» - 1)) 0·0)),
+      eq-eqb (length (lent-dens c)) (4 * (c .fs .«l_den» + 1)) (length-replicate (4 * (c .fs .«l_den» + 1)) 0·0),
+      finite-zeros (4 * (c .fs .«l_den» - 1)),
+      finite-zeros (4 * (c .fs .«l_den» + 1)),
       eq-eqb (length (silent c)) (c .nf) (length-silent c),
       l,
       range-zeros (c .nf),

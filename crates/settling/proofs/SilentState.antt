@@ -92,8 +92,8 @@ unfolding newTaps tapsOf
 zero-taps c k =
     let z = sized c k in
     let g = gain-zero (c .fs .«fs_ind») (bitsOf (c .«n_ms») 0) in (
-      scaled-zero 11 (c .fs .«num_row») (c .fs .«l_den» - 1) _ _ (g .1) (gain-row (c .fs .«fs_ind») (bitsOf (c .«n_ms») 0)) (omega arith),
-      scaled-zero 13 (c .fs .«den_row») (c .fs .«l_den» + 1) (longest (c .fs) .quarter) _ (g .0) (omega arith) (omega arith),
+      scaled-zero 11 (c .fs .«l_den» - 1) _ _ (g .1) (gain-row (c .fs .«fs_ind») (bitsOf (c .«n_ms») 0)),
+      scaled-zero 13 (c .fs .«l_den» + 1) (longest (c .fs) .quarter) _ (g .0) (omega arith),
     )
 
 -- its first sample is a number

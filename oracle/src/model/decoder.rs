@@ -108,8 +108,8 @@ impl Decoder {
         let (whole, quarter) = lag(self.config.rate.r, present.index);
         let (gain, row) = gain(&self.config, nbits).unwrap_or((0.0, 0));
         let l_den = self.config.rate.l_den;
-        let num_row = &num[row * (num.len() / 4)..][..l_den - 1];
-        let den_row = &den[quarter * (den.len() / 4)..][..l_den + 1];
+        let num_row = &num[row * (l_den - 1)..][..l_den - 1];
+        let den_row = &den[quarter * (l_den + 1)..][..l_den + 1];
         Some(Filter {
             num: num_row.iter().map(|c| (0.85 * gain) * c).collect(),
             den: den_row.iter().map(|c| gain * c).collect(),

@@ -39,7 +39,7 @@ pub const RATES: [Rate; 6] = [
     row(16000, 1, 2, (160, 120), 12, 4, 40),
     row(24000, 2, 3, (240, 180), 8, 6, 60),
     row(32000, 3, 4, (320, 240), 6, 8, 80),
-    row(44100, 4, 6, (480, 360), 4, 11, 120),
+    row(44100, 4, 6, (480, 360), 4, 12, 120),
     row(48000, 4, 6, (480, 360), 4, 12, 120),
 ];
 
@@ -84,13 +84,9 @@ impl Config {
         }
     }
 
-    // Entries of the lent numerator and denominator rows: 44100 is lent those of 48000.
+    // Entries of the four lent rows of numerators, and of the four of denominators.
     pub fn lent_lengths(&self) -> (usize, usize) {
-        let l_den = if self.rate.hz == 44100 {
-            12
-        } else {
-            self.rate.l_den
-        };
+        let l_den = self.rate.l_den;
         (4 * (l_den - 1), 4 * (l_den + 1))
     }
 }

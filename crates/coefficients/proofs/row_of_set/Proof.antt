@@ -32,7 +32,7 @@ part-result-end c = omega (arith, inside c)
 returns : tie.Need-returns
 returns c =
     let a = c .before .args in
-    let e : a .r * a .entries + a .used - a .r * a .entries ≡ a .used = omega arith in
+    let e : a .r * a .entries + a .entries - a .r * a .entries ≡ a .entries = omega arith in
     rw e
 
 pub row-of-set-spec : {M : Type 1} → statement M

@@ -18,8 +18,11 @@ row-of-requires c κs = search needs
 enum-known-found : tie.Need-enum-known-found
 enum-known-found c = search needs
 
+add-result : tie.Need-add-result
+add-result c = omega (arith, bound-at (λ row. row .«l_den») (λ _. 12) tt _ _ (row-found c))
+
 mul-result : tie.Need-mul-result
-mul-result c = omega (arith, bound-at (λ row. row .«den_row») (λ _. 13) tt _ _ (row-found c))
+mul-result c = omega (arith, bound-at (λ row. row .«l_den») (λ _. 12) tt _ _ (row-found c))
 
 enum-told : tie.Need-enum-told
 enum-told c = search needs
@@ -32,4 +35,4 @@ returns-2 c = rw (sym (c .before .before .row-of .ensures) ∙ c .enum-told .giv
 
 pub nabiteke-denominator-count-spec : {M : Type 1} → statement M
 nabiteke-denominator-count-spec =
-    tie.close (tie.spec row-of-requires enum-known-found mul-result enum-told returns returns-2)
+    tie.close (tie.spec row-of-requires enum-known-found add-result mul-result enum-told returns returns-2)

@@ -15,7 +15,7 @@ use Rattle.rates.proofs.table.row_of.Tie as tie
 
 -- what a lookup past the rows would read; no lookup does
 abbrev none : Rate
-none = row 0 0 0 0 0 0 0 0 0 0
+none = row 0 0 0 0 0 0 0 0
 
 abbrev Inv-loop : tie.InvT-loop
 Inv-loop hz i₀ i = (i ≤ 6) × (rowOf hz ≡ find hz (drop i rates))
