@@ -10,7 +10,8 @@
  *   nabiteke_published.h has the standard's coefficients, which the frame calls are lent.
  *
  *   Flags are 0 for no and anything else for yes. Rates are in Hz: 8000, 16000, 24000, 32000, 44100 or 48000.
- *   Durations are in microseconds: 10000 or 7500.
+ *   44100 is treated as 48000 throughout: frames, coefficients and answers are the same. Durations are in
+ *   microseconds: 10000 or 7500.
  *
  * Who owns what
  *
@@ -54,9 +55,9 @@
 #include <stdint.h>
 
 #define NABITEKE_VERSION_MAJOR 1
-#define NABITEKE_VERSION_MINOR 0
+#define NABITEKE_VERSION_MINOR 1
 #define NABITEKE_VERSION_PATCH 0
-/* One number, which rises from version to version: 10000 is 1.0.0. */
+/* One number, which rises from version to version: 10100 is 1.1.0. Since 1.1.0 a decoder at 44100 gives what one at 48000 gives. */
 #define NABITEKE_VERSION (NABITEKE_VERSION_MAJOR * 10000 + NABITEKE_VERSION_MINOR * 100 + NABITEKE_VERSION_PATCH)
 
 #define NABITEKE_STACK 12288
@@ -112,8 +113,8 @@ typedef struct nabiteke_record {
 
 /*
  * The coefficients that a decoder's frame call is lent: four rows of numerators, by gain row 0 to 3, one after
- * another, and four rows of denominators, by quarter 0 to 3. 44100 takes the rows of 48000. nabiteke_numerator_count
- * and nabiteke_denominator_count say how many entries a rate has.
+ * another, and four rows of denominators, by quarter 0 to 3. nabiteke_numerator_count and nabiteke_denominator_count say
+ * how many entries a rate has.
  */
 typedef struct nabiteke_rows {
     const float *numerators;

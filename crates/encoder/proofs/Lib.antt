@@ -2,3 +2,4 @@
 pub mod Judged
 pub mod Frames
 pub mod SilentFrames
+pub mod As48000

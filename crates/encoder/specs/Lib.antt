@@ -2,3 +2,4 @@
 pub mod State
 pub mod Judge
 pub mod Frame
+pub mod Rates

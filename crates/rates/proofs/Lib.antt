@@ -2,3 +2,4 @@
 pub mod Rows
 pub mod Known
 pub mod Sizes
+pub mod Renaming

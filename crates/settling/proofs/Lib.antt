@@ -17,3 +17,5 @@ pub mod Silence
 pub mod SilentState
 pub mod NoisyState
 pub mod TwoFrames
+pub mod Renaming
+pub mod As48000

@@ -1,0 +1,95 @@
+-- 44100 AS 48000. A decoder that is started at 44100 and one that is started at 48000, with the same duration, known or not, answer the start alike. From
+-- then on the same frames and loss marks give both the same answers, settled reports and sample bits, and leave them in the same state but for the
+-- rate that it names.
+use Prim.Native.Nat.{ℕ}
+use mathlib.Core.Path.{_≡_, refl, sym, ap}
+use mathlib.Core.Bool.{true, true≢false}
+use mathlib.Core.List.{List, [], _∷_}
+use lib.Ieee.{Float}
+use Rattle.rates.specs.Table.{find, rowOf}
+use Rattle.rates.specs.Durations.{durationOf}
+use Rattle.rates.specs.Configs.{configured}
+use Rattle.rates.specs.declared.duration.FoundDuration.{FoundDuration}
+use Rattle.rates.specs.declared.config.Configured.{Configured}
+use Rattle.rates.proofs.Renaming.{Like48000, like-44100, like-48000}
+use Rattle.control.specs.State.{clearedRegisters}
+use Rattle.control.specs.Judge.{judged}
+use Rattle.control.specs.Next.{nextRegisters}
+use Rattle.control.specs.declared.judge.Verdict.{Verdict}
+use Rattle.decoder.specs.State.{cleared, startedWith, started, fitDecoder}
+use Rattle.decoder.specs.Frame.{accepted, framedWith, framed, lostWith, lostFrom}
+use Rattle.decoder.specs.declared.state.Decoder.{Decoder}
+use Rattle.decoder.specs.declared.state.Started.{Started}
+use Rattle.decoder.specs.declared.frame.Framed.{Framed}
+use Rattle.settling.specs.Calls.{Given, Call, start, frame, loss, after, afterAll, fromStart, replyOf, replies}
+use Rattle.settling.specs.Rates.{renamed, noStart}
+use Rattle.settling.proofs.Renaming.{framed-renamed, lost-renamed}
+
+-- a frame and a loss mark keep the rate
+frame-keeps-rate : (d : Decoder) (f : Given) → after d (frame f) .registers .rate ≡ d .registers .rate
+unfolding framed accepted nextRegisters
+frame-keeps-rate d f = go (judged (d .registers) (fitDecoder d) (f .numerators) (f .denominators) (f .side) (f .samples))
+  where
+    go : (v : Verdict) → framedWith d (f .numerators) (f .denominators) (f .samples) v .0 .decoder .registers .rate ≡ d .registers .rate
+    go (Verdict.Refused answer) = refl
+    go (Verdict.Accepted plan) = refl
+
+loss-keeps-rate : (d : Decoder) → after d loss .registers .rate ≡ d .registers .rate
+unfolding lostFrom
+loss-keeps-rate d = go (fitDecoder d)
+  where
+    go : (k : Configured) → lostWith d k .decoder .registers .rate ≡ d .registers .rate
+    go (Configured.Refused answer) = refl
+    go (Configured.Config c) = refl
+
+-- any state that is like 48000, and the same state named so
+module _ (d : Decoder) (like : Like48000 (d .registers .rate)) where
+  record Alike (calls : List Call) : Type 0 where
+    rate : Like48000 (afterAll d calls .registers .rate)
+    state : afterAll (renamed 48000 d) calls ≡ renamed 48000 (afterAll d calls)
+    given-back : replies (renamed 48000 d) calls ≡ replies d calls
+
+  alike : (calls : List Call) → noStart calls ≡ true → Alike calls
+  alike [] q = record { rate = like; state = refl; given-back = refl }
+  alike (start rate duration ∷ earlier) q = absurd (true≢false (sym q))
+  alike (frame f ∷ earlier) q =
+      let before = alike earlier q in
+      let same = framed-renamed 48000 (afterAll d earlier) (before .rate (afterAll d earlier .registers .duration)) f in
+      record {
+        rate = rw (frame-keeps-rate (afterAll d earlier) f) (before .rate);
+        state = rw (before .state) (ap (λ (r : Framed × List Float). r .0 .decoder) same);
+        given-back = rw (before .state, before .given-back) (ap (λ (r : Framed × List Float). replyOf r ∷ replies d earlier) same);
+      }
+  alike (loss ∷ earlier) q =
+      let before = alike earlier q in
+      let same = lost-renamed 48000 (afterAll d earlier) (before .rate (afterAll d earlier .registers .duration)) in
+      record {
+        rate = rw (loss-keeps-rate (afterAll d earlier)) (before .rate);
+        state = rw (before .state) (ap (λ (r : Framed). r .decoder) same);
+        given-back = rw (before .state, before .given-back) (ap (λ (r : Framed). replyOf (r, []) ∷ replies d earlier) same);
+      }
+
+-- both starts; a refused one gives the same state, of 48000 Hz, under either name
+begun : (duration : ℕ) → (started 48000 duration .answer ≡ started 44100 duration .answer) ×
+    (started 48000 duration .decoder ≡ renamed 48000 (started 44100 duration .decoder)) × Like48000 (started 44100 duration .decoder .registers .rate)
+unfolding find cleared clearedRegisters
+begun duration = go (durationOf duration)
+  where
+    at : ℕ → FoundDuration → Started
+    at rate t = startedWith rate duration (configured (rowOf rate) t)
+
+    go : (t : FoundDuration) → (at 48000 t .answer ≡ at 44100 t .answer) ×
+        (at 48000 t .decoder ≡ renamed 48000 (at 44100 t .decoder)) × Like48000 (at 44100 t .decoder .registers .rate)
+    go FoundDuration.Unknown = (refl, refl, like-48000)
+    go (FoundDuration.Duration t) = (refl, refl, like-44100)
+
+pub record As48000 (duration : ℕ) (calls : List Call) : Type 0 where
+  pub answer : started 48000 duration .answer ≡ started 44100 duration .answer
+  pub given-back : replies (started 48000 duration .decoder) calls ≡ replies (started 44100 duration .decoder) calls
+  pub state : fromStart 48000 duration calls ≡ renamed 48000 (fromStart 44100 duration calls)
+
+pub as-48000 : (duration : ℕ) (calls : List Call) → noStart calls ≡ true → As48000 duration calls
+as-48000 duration calls q =
+    let b = begun duration in
+    let same = alike (started 44100 duration .decoder) (b .2) calls q in
+    record { answer = b .0; given-back = rw (b .1) (same .given-back); state = rw (b .1) (same .state) }
