@@ -1,6 +1,6 @@
-// The faults that the customer named in the given Rust, each with a smallest input: what the given
-// Rust gives and what the scope asks go to standard error, and vectors keep our answers. Beside them stand three
-// rare outcomes in which both agree: a root of 0, index 379, and no correlation above 0.0.
+// The faults that the customer named in the given Rust, and its 44100, each with a smallest input: what the
+// given Rust gives and what the scope asks go to standard error, and vectors keep our answers. Beside them stand
+// three rare outcomes in which both agree: a root of 0, index 379, and no correlation above 0.0.
 use crate::decoder_judge::{first_difference, same_samples, DecoderJudge};
 use crate::encoder_judge::EncoderJudge;
 use crate::known::reread_from;

@@ -2,7 +2,7 @@
 -- then on the same frames and loss marks give both the same answers, settled reports and sample bits, and leave them in the same state but for the
 -- rate that it names.
 use Prim.Native.Nat.{ℕ}
-use mathlib.Core.Path.{_≡_, refl, sym, ap}
+use mathlib.Core.Path.{_≡_, refl, sym, ap, _∙_, subst}
 use mathlib.Core.Bool.{true, true≢false}
 use mathlib.Core.List.{List, [], _∷_}
 use lib.Ieee.{Float}
@@ -21,7 +21,7 @@ use Rattle.decoder.specs.Frame.{accepted, framedWith, framed, lostWith, lostFro
 use Rattle.decoder.specs.declared.state.Decoder.{Decoder}
 use Rattle.decoder.specs.declared.state.Started.{Started}
 use Rattle.decoder.specs.declared.frame.Framed.{Framed}
-use Rattle.settling.specs.Calls.{Given, Call, start, frame, loss, after, afterAll, fromStart, replyOf, replies}
+use Rattle.settling.specs.Calls.{Given, Call, start, frame, loss, after, afterAll, fromStart, Reply, replyOf, reply, replies}
 use Rattle.settling.specs.Rates.{renamed, noStart}
 use Rattle.settling.proofs.Renaming.{framed-renamed, lost-renamed}
 
@@ -49,25 +49,32 @@ module _ (d : Decoder) (like : Like48000 (d .registers .rate)) where
     state : afterAll (renamed 48000 d) calls ≡ renamed 48000 (afterAll d calls)
     given-back : replies (renamed 48000 d) calls ≡ replies d calls
 
+  -- one call more, after which the renamed state is the state renamed
+  step : (c : Call) (earlier : List Call) → Alike earlier → (let e = afterAll d earlier in
+      (after (renamed 48000 e) c ≡ renamed 48000 (after e c)) → (reply (renamed 48000 e) c ≡ reply e c) →
+      (after e c .registers .rate ≡ e .registers .rate) → Alike (c ∷ earlier))
+  step c earlier before left told kept = record {
+    rate = subst Like48000 (sym kept) (before .rate);
+    state = ap (λ (x : Decoder). after x c) (before .state) ∙ left;
+    given-back =
+        ap (λ (x : Decoder). reply x c ∷ replies (renamed 48000 d) earlier) (before .state) ∙
+        ap (λ (r : Reply). r ∷ replies (renamed 48000 d) earlier) told ∙
+        ap (λ (rs : List Reply). reply (afterAll d earlier) c ∷ rs) (before .given-back);
+  }
+
   alike : (calls : List Call) → noStart calls ≡ true → Alike calls
   alike [] q = record { rate = like; state = refl; given-back = refl }
   alike (start rate duration ∷ earlier) q = absurd (true≢false (sym q))
   alike (frame f ∷ earlier) q =
       let before = alike earlier q in
-      let same = framed-renamed 48000 (afterAll d earlier) (before .rate (afterAll d earlier .registers .duration)) f in
-      record {
-        rate = rw (frame-keeps-rate (afterAll d earlier) f) (before .rate);
-        state = rw (before .state) (ap (λ (r : Framed × List Float). r .0 .decoder) same);
-        given-back = rw (before .state, before .given-back) (ap (λ (r : Framed × List Float). replyOf r ∷ replies d earlier) same);
-      }
+      let e = afterAll d earlier in
+      let same = framed-renamed 48000 e (before .rate (e .registers .duration)) f in
+      step (frame f) earlier before (ap (λ (r : Framed × List Float). r .0 .decoder) same) (ap replyOf same) (frame-keeps-rate e f)
   alike (loss ∷ earlier) q =
       let before = alike earlier q in
-      let same = lost-renamed 48000 (afterAll d earlier) (before .rate (afterAll d earlier .registers .duration)) in
-      record {
-        rate = rw (loss-keeps-rate (afterAll d earlier)) (before .rate);
-        state = rw (before .state) (ap (λ (r : Framed). r .decoder) same);
-        given-back = rw (before .state, before .given-back) (ap (λ (r : Framed). replyOf (r, []) ∷ replies d earlier) same);
-      }
+      let e = afterAll d earlier in
+      let same = lost-renamed 48000 e (before .rate (e .registers .duration)) in
+      step loss earlier before (ap (λ (r : Framed). r .decoder) same) (ap (λ (r : Framed). replyOf (r, [])) same) (loss-keeps-rate e)
 
 -- both starts; a refused one gives the same state, of 48000 Hz, under either name
 begun : (duration : ℕ) → (started 48000 duration .answer ≡ started 44100 duration .answer) ×
@@ -92,4 +99,8 @@ pub as-48000 : (duration : ℕ) (calls : List Call) → noStart calls ≡ true �
 as-48000 duration calls q =
     let b = begun duration in
     let same = alike (started 44100 duration .decoder) (b .2) calls q in
-    record { answer = b .0; given-back = rw (b .1) (same .given-back); state = rw (b .1) (same .state) }
+    record {
+      answer = b .0;
+      given-back = ap (λ (d : Decoder). replies d calls) (b .1) ∙ same .given-back;
+      state = ap (λ (d : Decoder). afterAll d calls) (b .1) ∙ same .state;
+    }
