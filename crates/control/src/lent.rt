@@ -7,14 +7,14 @@ ghost use lib.Dec.{eqb};
 ghost use lib.ListN.{length};
 ghost use Rattle.control.specs.Judge.{setCounts, setFinite};
 
-// Whether a slice has four rows that are so many entries shorter than an order. By division, so that no
-// product can wrap.
-fn has_rows(set: &[f32], shorter: usize, order: usize) -> bool
+// Whether a slice has four rows of `entries` less `shorter` entries each. By division, so that no product can
+// wrap.
+fn has_rows(set: &[f32], shorter: usize, entries: usize) -> bool
     requires { ⌜ shorter ≤ 1 ⌝ }
-    ensures { λ r. ⌜ r ≡ eqb (length (now (set .entry)) + 4 * shorter) (4 * order) ⌝ }
+    ensures { λ r. ⌜ r ≡ eqb (length (now (set .entry)) + 4 * shorter) (4 * entries) ⌝ }
 {
     if set.len() % 4 == 0 {
-        return set.len() / 4 + shorter == order;
+        return set.len() / 4 + shorter == entries;
     }
     false
 }

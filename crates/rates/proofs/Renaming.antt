@@ -7,6 +7,7 @@ use Rattle.rates.specs.Durations.{durationOf}
 use Rattle.rates.specs.Configs.{configured, configOf}
 use Rattle.rates.specs.declared.answer.Answer.{Answer}
 use Rattle.rates.specs.declared.table.Rate.{Rate}
+use Rattle.rates.specs.declared.table.FoundRate.the-variants.{Row}
 use Rattle.rates.specs.declared.duration.FrameDuration.the-variants.{TenMs, SevenPointFiveMs}
 use Rattle.rates.specs.declared.duration.FoundDuration.{FoundDuration}
 use Rattle.rates.specs.declared.config.Lc3Config.{Lc3Config}
@@ -43,19 +44,19 @@ test-as hz c false a = refl
 abbrev pub Like48000 : ℕ → Type 0
 Like48000 rate = (duration : ℕ) → configOf 48000 duration ≡ configured-as 48000 (configOf rate duration)
 
-pub like-44100 : Like48000 44100
-unfolding find
-like-44100 duration = go (durationOf duration)
+-- so it is where 48000 has the rate's row, but for the name
+like-row : (rate : ℕ) (fs : Rate) → rowOf rate ≡ Row fs → rowOf 48000 ≡ Row (row-as 48000 fs) → Like48000 rate
+like-row rate fs found same duration = rw (found, same) (go (durationOf duration))
   where
-    go : (d : FoundDuration) → configured (rowOf 48000) d ≡ configured-as 48000 (configured (rowOf 44100) d)
+    go : (d : FoundDuration) → configured (Row (row-as 48000 fs)) d ≡ configured-as 48000 (configured (Row fs) d)
     go FoundDuration.Unknown = refl
     go (FoundDuration.Duration TenMs) = refl
     go (FoundDuration.Duration SevenPointFiveMs) = refl
 
+pub like-44100 : Like48000 44100
+unfolding find
+like-44100 = like-row 44100 _ refl refl
+
 pub like-48000 : Like48000 48000
 unfolding find
-like-48000 duration = go (durationOf duration)
-  where
-    go : (d : FoundDuration) → configured (rowOf 48000) d ≡ configured-as 48000 (configured (rowOf 48000) d)
-    go FoundDuration.Unknown = refl
-    go (FoundDuration.Duration d) = refl
+like-48000 = like-row 48000 _ refl refl

@@ -1,4 +1,5 @@
 -- `nabiteke_denominator_count` finds the rate's row as the definition does.
+use Prim.Native.Nat.{_≤_}
 use native.Mathlib.Omega.{arith}
 use mathlib.Core.Path.{_≡_, sym, _∙_}
 use borrow.Author.Needs.{needs}
@@ -18,11 +19,15 @@ row-of-requires c κs = search needs
 enum-known-found : tie.Need-enum-known-found
 enum-known-found c = search needs
 
+-- its order is one of the table
+small : (c : tie.After-struct-known) → c .before .before .found .given .0 .0 .«l_den» ≤ 12
+small c = bound-at (λ row. row .«l_den») (λ _. 12) tt _ _ (row-found c)
+
 add-result : tie.Need-add-result
-add-result c = omega (arith, bound-at (λ row. row .«l_den») (λ _. 12) tt _ _ (row-found c))
+add-result c = omega (arith, small c)
 
 mul-result : tie.Need-mul-result
-mul-result c = omega (arith, bound-at (λ row. row .«l_den») (λ _. 12) tt _ _ (row-found c))
+mul-result c = omega (arith, small c)
 
 enum-told : tie.Need-enum-told
 enum-told c = search needs
