@@ -1,7 +1,7 @@
 -- The answer numbers of docs/SCOPE.md.
 use Prim.Native.Nat.{ℕ}
 use Rattle.rates.specs.declared.answer.Answer.{Answer}
-use Rattle.rates.specs.declared.answer.Answer.the-variants.{Done, UnknownRate, UnknownDuration, CoefficientCount, CoefficientNotFinite, SampleCount, TooManyBits, IndexTooLarge, SampleOutOfRange, UnfitState, MalformedLine, WrongFrameNumber}
+use Rattle.rates.specs.declared.answer.Answer.the-variants.{Done, UnknownRate, UnknownDuration, CoefficientCount, CoefficientNotFinite, SampleCount, TooManyBits, IndexTooLarge, SampleOutOfRange, UnfitState, MalformedLine, WrongFrameNumber, PaddingSet, TooFewBytes}
 
 abbrev pub numberOf : Answer → ℕ
 numberOf Done = 0
@@ -16,3 +16,5 @@ numberOf SampleOutOfRange = 8
 numberOf UnfitState = 9
 numberOf MalformedLine = 10
 numberOf WrongFrameNumber = 11
+numberOf PaddingSet = 12
+numberOf TooFewBytes = 15

@@ -15,6 +15,8 @@ pub enum Answer {
     UnfitState,
     MalformedLine,
     WrongFrameNumber,
+    PaddingSet,
+    TooFewBytes,
 }
 
 // The number under which an answer is listed.
@@ -34,5 +36,7 @@ pub fn number(answer: Answer) -> u64
         Answer::UnfitState => 9,
         Answer::MalformedLine => 10,
         Answer::WrongFrameNumber => 11,
+        Answer::PaddingSet => 12,
+        Answer::TooFewBytes => 15,
     }
 }

@@ -1,0 +1,124 @@
+-- What is written reads back, and what is read was written in the one form that it has.
+use Prim.Native.Nat.{ℕ, _+_, _*_, _/_, _%_, _≤_, _<_}
+use mathlib.Core.Path.{_≡_, refl, sym, ap, ap₂, subst, _∙_}
+use mathlib.Core.Bool.{Bool, true, false, cond}
+use mathlib.Core.List.{List, [], _∷_, _++_}
+use native.Mathlib.Omega.{arith}
+use borrow.Author.Tests.{eq-eqb, ne-eqb, eqb-true, eqb-false, le-leb, leb-true, leb-false, le-ltb}
+use lib.Dec.{eqb, leb, ltb}
+use lib.ListN.{length, take, drop, getD}
+use lib.Seq.{take-append-seam}
+use Rattle.rates.specs.Answers.{numberOf}
+use Rattle.rates.specs.declared.answer.Answer.{Answer}
+use Rattle.rates.specs.declared.answer.Answer.the-variants.{Done, IndexTooLarge, PaddingSet, TooFewBytes}
+use Rattle.lag.specs.declared.pitch.Present.{Present as Mark}
+use Rattle.lag.specs.declared.pitch.PitchRecord.{PitchRecord}
+use Rattle.lag.specs.declared.pitch.PitchRecord.the-variants.{Absent, Present}
+use Rattle.packing.specs.Bits.{bitsOf, bitsIn, bytesOf, valueOf}
+use Rattle.packing.specs.Form.{form}
+use Rattle.packing.specs.Writings.{hasForm, refusedWriting, writing}
+use Rattle.packing.specs.Readings.{refusedReading, readBits, reading}
+use Rattle.packing.specs.declared.read.Reading.{Reading}
+use Rattle.packing.specs.declared.write.Writing.{Writing}
+use Rattle.packing.proofs.ByBytes.{done, indexIn, presentIn, none, absent-read, present-read, early, form-present}
+
+-- a form reads as its record, whatever follows
+form-read : (pitch : PitchRecord) (more : List ℕ) → hasForm pitch ≡ true → reading (form pitch ++ more) ≡ done pitch (length (form pitch))
+unfolding form bytesOf bitsOf valueOf
+form-read Absent more h = absent-read 0 more (omega arith)
+form-read (Present p) more h =
+    ap (λ (bytes : List ℕ). reading (bytes ++ more)) (form-present i (p .active))
+    ∙ present-read (first (p .active)) (32 * (i % 8)) more (omega arith) (below (p .active)) (omega arith)
+    ∙ ap (λ (b : Bool). cond b (done (presentIn (first (p .active)) (32 * (i % 8))) 2) (refusedReading PaddingSet)) (eq-eqb (32 * (i % 8) % 32) 0 (omega arith))
+    ∙ ap₂ (λ (index : ℕ) (active : Bool). done (Present (record { index = index; active = active })) 2) (index (p .active)) (active (p .active))
+  where
+    i : ℕ
+    i = p .index
+
+    first : Bool → ℕ
+    first on = 128 + (cond on 64 0 + i / 8 % 64)
+
+    below : (on : Bool) → first on < 256
+    below true = omega arith
+    below false = omega arith
+
+    index : (on : Bool) → 8 * (first on % 64) + 32 * (i % 8) / 32 ≡ i
+    index true = omega (arith, leb-true i 511 h)
+    index false = omega (arith, leb-true i 511 h)
+
+    active : (on : Bool) → eqb (first on / 64 % 2) 1 ≡ on
+    active true = eq-eqb (first true / 64 % 2) 1 (omega arith)
+    active false = ne-eqb (first false / 64 % 2) 1 (λ e. absurd (omega (arith, e)))
+
+-- Reading what was written gives the record back and its length, whatever follows it.
+pub reads-back : (pitch : PitchRecord) (bytes more : List ℕ) → writing pitch bytes .0 .answer ≡ Done →
+    reading (take (writing pitch bytes .0 .written) (writing pitch bytes .1) ++ more) ≡
+    record { answer = Done; pitch = pitch; used = writing pitch bytes .0 .written }
+unfolding writing
+reads-back pitch bytes more = go (hasForm pitch) (ltb (length bytes) (length (form pitch))) refl
+  where
+    outcome : Bool → Bool → Writing × List ℕ
+    outcome fits short =
+        cond fits
+        (cond short (refusedWriting TooFewBytes, bytes)
+        (record { answer = Done; written = length (form pitch) }, form pitch ++ drop (length (form pitch)) bytes))
+        (refusedWriting IndexTooLarge, bytes)
+
+    go : (fits short : Bool) → hasForm pitch ≡ fits → outcome fits short .0 .answer ≡ Done →
+        reading (take (outcome fits short .0 .written) (outcome fits short .1) ++ more) ≡ done pitch (outcome fits short .0 .written)
+    go false short h e = absurd (omega (arith, ap numberOf e))
+    go true true h e = absurd (omega (arith, ap numberOf e))
+    go true false h e =
+        ap (λ (front : List ℕ). reading (front ++ more)) (take-append-seam (form pitch) (drop (length (form pitch)) bytes)) ∙ form-read pitch more h
+
+-- a record whose form is these bytes, written where they fit
+written-over : (pitch : PitchRecord) (bytes room : List ℕ) → hasForm pitch ≡ true → form pitch ≡ bytes → length bytes ≤ length room →
+    writing pitch room ≡ (record { answer = Done; written = length bytes }, bytes ++ drop (length bytes) room)
+unfolding writing
+written-over pitch bytes room h e l = rw (h, e, le-ltb (length room) (length bytes) l)
+
+-- where a reading is done, writing its record gives the bytes that it used
+abbrev Formed : List ℕ → Reading → Type 0
+Formed bytes r = r .answer ≡ Done → (room : List ℕ) → r .used ≤ length room →
+    writing (r .pitch) room ≡ (record { answer = Done; written = r .used }, take (r .used) bytes ++ drop (r .used) room)
+
+no-record : (bytes : List ℕ) (answer : Answer) → 1 ≤ numberOf answer → Formed bytes (refusedReading answer)
+no-record bytes answer h e = absurd (omega (arith, h, ap numberOf e))
+
+one-byte : (a : ℕ) (rest : List ℕ) → a < 128 → Formed (a ∷ rest) (reading (a ∷ rest))
+unfolding form bytesOf valueOf
+one-byte a rest h = subst (Formed (a ∷ rest)) (sym (absent-read a rest h)) (go (eqb a 0) refl)
+  where
+    go : (b : Bool) → eqb a 0 ≡ b → Formed (a ∷ rest) (cond b (done Absent 1) (refusedReading PaddingSet))
+    go false e = no-record (a ∷ rest) PaddingSet (omega arith)
+    go true e = λ d room l. written-over Absent (a ∷ []) room refl (ap {B = List ℕ} (λ (x : ℕ). x ∷ []) (sym (eqb-true a 0 e))) l
+
+two-bytes : (a b : ℕ) (rest : List ℕ) → 128 ≤ a → a < 256 → b < 256 → Formed (a ∷ b ∷ rest) (reading (a ∷ b ∷ rest))
+two-bytes a b rest l u v = subst (Formed (a ∷ b ∷ rest)) (sym (present-read a b rest l u v)) (go (eqb (b % 32) 0) refl)
+  where
+    first : (on : Bool) → eqb (a / 64 % 2) 1 ≡ on → 128 + (cond on 64 0 + indexIn a b / 8 % 64) ≡ a
+    first true e = omega (arith, l, u, v, eqb-true (a / 64 % 2) 1 e)
+    first false e = omega (arith, l, u, v, eqb-false (a / 64 % 2) 1 e)
+
+    go : (clear : Bool) → eqb (b % 32) 0 ≡ clear → Formed (a ∷ b ∷ rest) (cond clear (done (presentIn a b) 2) (refusedReading PaddingSet))
+    go false e = no-record (a ∷ b ∷ rest) PaddingSet (omega arith)
+    go true e = λ d room space.
+        written-over (presentIn a b) (a ∷ b ∷ []) room (le-leb (indexIn a b) 511 (omega (arith, v)))
+        (form-present (indexIn a b) (eqb (a / 64 % 2) 1)
+        ∙ ap₂ {C = List ℕ} (λ (x y : ℕ). x ∷ y ∷ []) (first (eqb (a / 64 % 2) 1) refl) (omega (arith, v, eqb-true (b % 32) 0 e)))
+        space
+
+-- Writing what was read gives the bytes that were used, so each record has one form only.
+pub one-form : (bytes room : List ℕ) → ((i : ℕ) → getD bytes i 0 < 256) → reading bytes .answer ≡ Done → reading bytes .used ≤ length room →
+    writing (reading bytes .pitch) room ≡
+    (record { answer = Done; written = reading bytes .used }, take (reading bytes .used) bytes ++ drop (reading bytes .used) room)
+one-form bytes room b e l = go bytes b e room l
+  where
+    from : (a : ℕ) (rest : List ℕ) → ((i : ℕ) → getD (a ∷ rest) i 0 < 256) → (small : Bool) → leb 128 a ≡ small → Formed (a ∷ rest) (reading (a ∷ rest))
+    from a rest b false p = one-byte a rest (leb-false 128 a p)
+    from a [] b true p = subst (Formed (a ∷ [])) (sym (early a (leb-true 128 a p) (b 0))) (no-record (a ∷ []) TooFewBytes (omega arith))
+    from a (c ∷ rest) b true p = two-bytes a c rest (leb-true 128 a p) (b 0) (b 1)
+
+    go : (bytes : List ℕ) → ((i : ℕ) → getD bytes i 0 < 256) → Formed bytes (reading bytes)
+    go [] b = subst (Formed []) (sym none) (no-record [] TooFewBytes (omega arith))
+    go (a ∷ rest) b = from a rest b (leb 128 a) refl

@@ -1,0 +1,52 @@
+-- `write_present`: 7, then 15, then both bytes of the form.
+use Prim.Native.Nat.{ℕ, _≤_}
+use mathlib.Core.Path.{_≡_, refl}
+use mathlib.Core.List.{List, [], _∷_}
+use native.Mathlib.Omega.{arith}
+use borrow.Author.Needs.{needs}
+use borrow.Author.Tests.{lt-ltb, le-ltb, le-leb, lt-leb}
+use lib.ListN.{length, set, drop}
+use Rattle.packing.specs.Bits.{bitsOf, bytesOf}
+use Rattle.packing.specs.Form.{form}
+use Rattle.packing.specs.Writings.{writing}
+use Rattle.packing.proofs.write.write_present.Statement.{statement}
+use Rattle.packing.proofs.write.write_present.Tie as tie
+
+over : (bytes : List ℕ) (a b : ℕ) → 2 ≤ length bytes → set (set bytes 0 a) 1 b ≡ a ∷ b ∷ drop 2 bytes
+over [] a b h = absurd (omega (arith, h))
+over (x ∷ []) a b h = absurd (omega (arith, h))
+over (x ∷ y ∷ bytes) a b h = refl
+
+returns : tie.Need-returns
+unfolding writing
+returns c = rw (c .refused .ensures, lt-leb _ _ (c .before .if1 .taken))
+
+returns-2 : tie.Need-returns-2
+unfolding writing form bytesOf bitsOf
+returns-2 c = rw (c .refused2 .ensures, le-leb _ _ (c .before .before .if1 .left), lt-ltb _ _ (c .before .if2 .taken))
+
+returns-3 : tie.Need-returns-3
+unfolding writing form bytesOf bitsOf
+returns-3 c =
+    rw (
+      le-leb _ _ (c .before .before .before .if1 .left),
+      le-ltb _ _ (c .before .before .if2 .left),
+      over (c .before .before .before .before .before .before .args .bytes .now) (c .before .first-byte .result) (c .second-byte .result) (search needs),
+      c .before .first-byte .ensures,
+      c .second-byte .ensures,
+    )
+
+pub write-present-spec : {M : Type 1} → statement M
+write-present-spec =
+    tie.close
+    (tie.spec
+    (λ c κs. search needs)
+    returns
+    (λ c κs. search needs)
+    returns-2
+    (λ c κs. search needs)
+    (λ c. search needs)
+    (λ c κs. search needs)
+    (λ c. search needs)
+    (λ c. search needs)
+    returns-3)
