@@ -1,4 +1,4 @@
--- A frame's pitch as the caller's numbers: what a decoder is given, and what an encoder gives.
+-- A frame's pitch as the caller's numbers: what a call is given, and what it gives.
 use Prim.Native.Nat.{ℕ}
 use mathlib.Core.Bool.{cond}
 use mathlib.Core.List.{List, [], _∷_}
@@ -15,7 +15,7 @@ pitchFrom present index active = cond (isYes present) (Present (record { index =
 unfoldable pub sideFrom : ℕ → ℕ → ℕ → ℕ → SideInfo
 sideFrom present index active nbits = record { pitch = pitchFrom present index active; nbits = nbits }
 
--- a record: present, index, active, bits
+-- a record: present, index, active, and its length in bits or in bytes
 abbrev pub recordOf : PitchRecord → ℕ → List ℕ
-recordOf Absent bits = 0 ∷ 0 ∷ 0 ∷ bits ∷ []
-recordOf (Present p) bits = 1 ∷ p .index ∷ asFlag (p .active) ∷ bits ∷ []
+recordOf Absent size = 0 ∷ 0 ∷ 0 ∷ size ∷ []
+recordOf (Present p) size = 1 ∷ p .index ∷ asFlag (p .active) ∷ size ∷ []

@@ -1,34 +1,40 @@
-// A frame's pitch as the caller's numbers: what a decoder is given, and what an encoder gives.
+// A frame's pitch as the caller's numbers: what a call is given, and what it gives.
 use crate::words::as_flag;
 use crate::words::is_yes;
 use control::judge::SideInfo;
 use lag::pitch::PitchRecord;
 use lag::pitch::Present;
 ghost use mathlib.Core.Path.{_≡_};
-ghost use Rattle.c_arrays.specs.Pitch.{sideFrom, recordOf};
+ghost use Rattle.c_arrays.specs.Pitch.{pitchFrom, sideFrom, recordOf};
 
-// The pitch record that three numbers are, and with it the frame's bits.
-pub fn read_side(present: u32, index: u32, active: u32, nbits: u32) -> SideInfo
-    ensures { λ r. ⌜ r ≡ sideFrom present index active nbits ⌝ }
+// The pitch record that three numbers are.
+pub fn pitch_from(present: u32, index: u32, active: u32) -> PitchRecord
+    ensures { λ r. ⌜ r ≡ pitchFrom present index active ⌝ }
 {
     if is_yes(present) {
         let active = is_yes(active);
-        let pitch = PitchRecord::Present(Present { index, active });
-        return SideInfo { pitch, nbits };
+        return PitchRecord::Present(Present { index, active });
     }
-    let pitch = PitchRecord::Absent;
+    PitchRecord::Absent
+}
+
+// And with it the frame's bits.
+pub fn read_side(present: u32, index: u32, active: u32, nbits: u32) -> SideInfo
+    ensures { λ r. ⌜ r ≡ sideFrom present index active nbits ⌝ }
+{
+    let pitch = pitch_from(present, index, active);
     SideInfo { pitch, nbits }
 }
 
-// A pitch record and its bits as four numbers.
-pub fn write_record(record: &mut [u32; 4], pitch: PitchRecord, bits: u32)
-    ensures { λ _. ⌜ now («record» .exit) ≡ recordOf pitch bits ⌝ }
+// A pitch record and its length, in bits or in bytes, as four numbers.
+pub fn write_record(record: &mut [u32; 4], pitch: PitchRecord, size: u32)
+    ensures { λ _. ⌜ now («record» .exit) ≡ recordOf pitch size ⌝ }
 {
     match pitch {
-        PitchRecord::Absent => *record = [0, 0, 0, bits],
+        PitchRecord::Absent => *record = [0, 0, 0, size],
         PitchRecord::Present(present) => {
             let active = as_flag(present.active);
-            *record = [1, present.index, active, bits];
+            *record = [1, present.index, active, size];
         }
     }
 }

@@ -4,3 +4,4 @@ pub mod DecoderArrays
 pub mod DecoderCalls
 pub mod EncoderArrays
 pub mod EncoderCalls
+pub mod PitchCalls

@@ -7,7 +7,7 @@ use native.Mathlib.Nat.{mod-eq-of-lt}
 use native.Mathlib.Omega.{arith}
 use borrow.Author.Tests.{eq-eqb, ne-eqb, le-ltb}
 use lib.Dec.{eqb, ltb}
-use lib.ListN.{length, replicate}
+use lib.ListN.{length, take, drop, replicate}
 use Rattle.rates.specs.declared.answer.Answer.the-variants.{Done, PaddingSet, TooFewBytes}
 use Rattle.lag.specs.declared.pitch.PitchRecord.{PitchRecord}
 use Rattle.lag.specs.declared.pitch.PitchRecord.the-variants.{Absent, Present}
@@ -68,3 +68,22 @@ form-present i active =
     ∙ ap₂ {C = List ℕ} (λ (x y : ℕ). (128 + (cond active 64 0 + x)) ∷ y ∷ [])
     (value-bits 6 (i / 8))
     (value-append (bitsOf 3 i) (replicate 5 false) ∙ omega (arith, value-bits 3 i))
+
+-- no reading uses more than two bytes
+pub at-most-two : (bytes : List ℕ) → reading bytes .used ≤ 2
+unfolding reading readBits
+at-most-two bytes = go (bitsIn bytes)
+  where
+    either : (b : Bool) (pitch : PitchRecord) (used : ℕ) → used ≤ 2 → cond b (done pitch used) (refusedReading PaddingSet) .used ≤ 2
+    either true pitch used h = h
+    either false pitch used h = omega arith
+
+    unless-short : (b : Bool) (r : Reading) → r .used ≤ 2 → cond b (refusedReading TooFewBytes) r .used ≤ 2
+    unless-short true r h = omega arith
+    unless-short false r h = h
+
+    go : (bits : List Bool) → readBits bits .used ≤ 2
+    go [] = omega arith
+    go (false ∷ bits) = either (clear (take 7 bits)) Absent 1 (omega arith)
+    go (true ∷ bits) =
+        unless-short (ltb (length bits) 10) (readAs (presentFrom bits) 11 (true ∷ bits)) (either (clear (take 5 (drop 10 bits))) (presentFrom bits) 2 (omega arith))

@@ -1,23 +1,12 @@
--- `read_side`: two flags and an index.
-use mathlib.Core.Path.{sym, _∙_}
+-- `read_side`: a pitch, and the bits beside it.
 use borrow.Author.Needs.{needs}
 use Rattle.c_arrays.specs.Pitch.{sideFrom}
 use Rattle.c_arrays.proofs.pitch.read_side.Statement.{statement}
 use Rattle.c_arrays.proofs.pitch.read_side.Tie as tie
 
-is-yes-requires : tie.Need-is-yes-requires
-is-yes-requires c κs = search needs
-
-is-yes-requires-2 : tie.Need-is-yes-requires-2
-is-yes-requires-2 c κs = search needs
-
 returns : tie.Need-returns
 unfolding sideFrom
-returns c = rw (sym (c .before .before .is-yes .ensures) ∙ c .before .if1 .taken, c .is-yes2 .ensures)
-
-returns-2 : tie.Need-returns-2
-unfolding sideFrom
-returns-2 c = rw (sym (c .before .is-yes .ensures) ∙ c .if1 .left)
+returns c = rw (c .pitch-from .ensures)
 
 pub read-side-spec : {M : Type 1} → statement M
-read-side-spec = tie.close (tie.spec is-yes-requires is-yes-requires-2 returns returns-2)
+read-side-spec = tie.close (tie.spec (λ c κs. search needs) returns)
