@@ -50,6 +50,14 @@ present-read a b rest l u v =
     (clear-low 5 b)
     (value-append (bitsOf 6 a) (bitsOf 3 (b / 32)) ∙ omega (arith, v, value-bits 6 a, value-bits 3 (b / 32)))
 
+pub present-clear : (a b : ℕ) (rest : List ℕ) → 128 ≤ a → a < 256 → b < 256 → b % 32 ≡ 0 → reading (a ∷ b ∷ rest) ≡ done (presentIn a b) 2
+present-clear a b rest l u v e =
+    present-read a b rest l u v ∙ ap (λ (x : Bool). cond x (done (presentIn a b) 2) (refusedReading PaddingSet)) (eq-eqb (b % 32) 0 e)
+
+pub present-set : (a b : ℕ) (rest : List ℕ) → 128 ≤ a → a < 256 → b < 256 → (b % 32 ≡ 0 → ⊥) → reading (a ∷ b ∷ rest) ≡ refusedReading PaddingSet
+present-set a b rest l u v n =
+    present-read a b rest l u v ∙ ap (λ (x : Bool). cond x (done (presentIn a b) 2) (refusedReading PaddingSet)) (ne-eqb (b % 32) 0 n)
+
 -- the bytes end early: none at all, or one that says present
 pub none : reading [] ≡ refusedReading TooFewBytes
 unfolding reading readBits bitsIn

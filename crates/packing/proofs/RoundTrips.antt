@@ -20,7 +20,7 @@ use Rattle.packing.specs.Writings.{hasForm, refusedWriting, writing}
 use Rattle.packing.specs.Readings.{refusedReading, readBits, reading}
 use Rattle.packing.specs.declared.read.Reading.{Reading}
 use Rattle.packing.specs.declared.write.Writing.{Writing}
-use Rattle.packing.proofs.ByBytes.{done, indexIn, presentIn, none, absent-read, present-read, early, form-present}
+use Rattle.packing.proofs.ByBytes.{done, indexIn, presentIn, none, absent-read, present-read, present-clear, early, form-present}
 
 -- a form reads as its record, whatever follows
 form-read : (pitch : PitchRecord) (more : List ℕ) → hasForm pitch ≡ true → reading (form pitch ++ more) ≡ done pitch (length (form pitch))
@@ -28,8 +28,7 @@ unfolding form bytesOf bitsOf valueOf
 form-read Absent more h = absent-read 0 more (omega arith)
 form-read (Present p) more h =
     ap (λ (bytes : List ℕ). reading (bytes ++ more)) (form-present i (p .active))
-    ∙ present-read (first (p .active)) (32 * (i % 8)) more (omega arith) (below (p .active)) (omega arith)
-    ∙ ap (λ (b : Bool). cond b (done (presentIn (first (p .active)) (32 * (i % 8))) 2) (refusedReading PaddingSet)) (eq-eqb (32 * (i % 8) % 32) 0 (omega arith))
+    ∙ present-clear (first (p .active)) (32 * (i % 8)) more (omega arith) (below (p .active)) (omega arith) (omega arith)
     ∙ ap₂ (λ (index : ℕ) (active : Bool). done (Present (record { index = index; active = active })) 2) (index (p .active)) (active (p .active))
   where
     i : ℕ

@@ -47,13 +47,13 @@ fn read_present(first: u8, second: u8) -> Reading
     requires { ⌜ 128 ≤ first ⌝ }
     ensures { λ r. ⌜ ((rest : List ℕ) → r ≡ reading (first ∷ second ∷ rest)) ⌝ }
 {
-    if (second & 31) != 0 {
+    if second % 32 != 0 {
         return refused(Answer::PaddingSet);
     }
-    let upper = (first & 63) as u32;
+    let upper = (first % 64) as u32;
     let lower = (second >> 5) as u32;
     let index = 8 * upper + lower;
-    let active = ((first >> 6) & 1) == 1;
+    let active = (first >> 6) % 2 == 1;
     let pitch = PitchRecord::Present(Present { index, active });
     Reading {
         answer: Answer::Done,

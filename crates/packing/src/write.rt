@@ -35,17 +35,19 @@ fn first_byte(present: Present) -> u8
 fn second_byte(present: Present) -> u8
     ensures { λ r. ⌜ r ≡ getD (form (PitchRecord.Present present)) 1 0 ⌝ }
 {
-    (32 * (present.index & 7)) as u8
+    (32 * (present.index % 8)) as u8
 }
 
 // A present record takes two bytes.
 fn write_present(bytes: &mut [u8], present: Present) -> Writing
     ensures { λ r. ⌜ (r, now (bytes .exit)) ≡ writing (PitchRecord.Present present) (now (bytes .entry)) ⌝ }
 {
-    if present.index > 511 {
+    let index = present.index;
+    let room = bytes.len();
+    if index > 511 {
         return refused(Answer::IndexTooLarge);
     }
-    if bytes.len() < 2 {
+    if room < 2 {
         return refused(Answer::TooFewBytes);
     }
     bytes[0] = first_byte(present);
@@ -60,14 +62,14 @@ fn write_present(bytes: &mut [u8], present: Present) -> Writing
 fn write_absent(bytes: &mut [u8]) -> Writing
     ensures { λ r. ⌜ (r, now (bytes .exit)) ≡ writing PitchRecord.Absent (now (bytes .entry)) ⌝ }
 {
-    if bytes.len() < 1 {
-        return refused(Answer::TooFewBytes);
+    if bytes.len() > 0 {
+        bytes[0] = 0;
+        return Writing {
+            answer: Answer::Done,
+            written: 1,
+        };
     }
-    bytes[0] = 0;
-    Writing {
-        answer: Answer::Done,
-        written: 1,
-    }
+    refused(Answer::TooFewBytes)
 }
 
 // Writes a record at the beginning of the bytes, and leaves the others as they were.

@@ -17,13 +17,13 @@ over [] a h = absurd (omega (arith, h))
 over (x ∷ bytes) a h = refl
 
 returns : tie.Need-returns
-unfolding writing form bytesOf
-returns c = rw (c .refused .ensures, lt-ltb _ _ (c .before .if1 .taken))
+unfolding writing form bytesOf valueOf
+returns c = rw (le-ltb _ _ (c .if1 .taken), over (c .before .before .args .bytes .now) 0 (search needs))
 
 returns-2 : tie.Need-returns-2
-unfolding writing form bytesOf valueOf
-returns-2 c = rw (le-ltb _ _ (c .if1 .left), over (c .before .before .args .bytes .now) 0 (search needs))
+unfolding writing form bytesOf
+returns-2 c = rw (c .refused .ensures, lt-ltb (length (c .before .before .before .args .bytes .now)) 1 (search needs))
 
 pub write-absent-spec : {M : Type 1} → statement M
 write-absent-spec =
-    tie.close (tie.spec (λ c κs. search needs) returns (λ c. search needs) (λ c. search needs) returns-2)
+    tie.close (tie.spec (λ c. search needs) (λ c. search needs) returns (λ c κs. search needs) returns-2)

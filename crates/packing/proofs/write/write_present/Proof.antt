@@ -19,7 +19,7 @@ over (x ∷ y ∷ bytes) a b h = refl
 
 returns : tie.Need-returns
 unfolding writing
-returns c = rw (c .refused .ensures, lt-leb _ _ (c .before .if1 .taken))
+returns c = rw (c .refused .ensures, lt-leb (c .before .before .before .args .present .index) 511 (c .before .if1 .taken))
 
 returns-2 : tie.Need-returns-2
 unfolding writing form bytesOf bitsOf
@@ -31,7 +31,7 @@ returns-3 c =
     rw (
       le-leb _ _ (c .before .before .before .if1 .left),
       le-ltb _ _ (c .before .before .if2 .left),
-      over (c .before .before .before .before .before .before .args .bytes .now) (c .before .first-byte .result) (c .second-byte .result) (search needs),
+      over (c .before .before .before .before .before .args .bytes .now) (c .before .first-byte .result) (c .second-byte .result) (search needs),
       c .before .first-byte .ensures,
       c .second-byte .ensures,
     )
