@@ -25,7 +25,8 @@
  *   no call can see it:
  *   - a pointer is never NULL, and what it points to is there: a count says how many entries an array has;
  *   - floats and structs are aligned to 4 bytes, 16-bit samples to 2;
- *   - what a call writes (its struct, a decoder's samples, an encoder's record) overlaps nothing else that it is lent;
+ *   - what a call writes (its struct, a decoder's samples, an encoder's record, a stored pitch) overlaps nothing else that it
+ *     is lent;
  *   - two calls on one struct do not run at the same time.
  *   And floating point is as a program starts with it: rounding to nearest, subnormal numbers kept, no exception
  *   trapped (on x86-64 an MXCSR of 0x1f80). Audio hosts often have subnormals flushed (FTZ, DAZ): set that back for
@@ -55,9 +56,10 @@
 #include <stdint.h>
 
 #define NABITEKE_VERSION_MAJOR 1
-#define NABITEKE_VERSION_MINOR 1
+#define NABITEKE_VERSION_MINOR 2
 #define NABITEKE_VERSION_PATCH 0
-/* One number, which rises from version to version: 10100 is 1.1.0. Since 1.1.0 a decoder at 44100 gives what one at 48000 gives. */
+/* One number, which rises from version to version: 10200 is 1.2.0. Since 1.1.0 a decoder at 44100 gives what one at 48000 gives;
+   since 1.2.0 a pitch can be stored as bytes. */
 #define NABITEKE_VERSION (NABITEKE_VERSION_MAJOR * 10000 + NABITEKE_VERSION_MINOR * 100 + NABITEKE_VERSION_PATCH)
 
 #define NABITEKE_STACK 12288
@@ -67,7 +69,7 @@ extern "C" {
 #endif
 
 /* What a call answers. Checked in this order: a start 1, 2; a frame 9, 3, 4, 5, 6, and a decoder's then 7, 8;
-   a loss mark 9. */
+   a loss mark 9; the writing of a pitch 7, 15; its reading 15, 12. */
 enum nabiteke_answer {
     NABITEKE_DONE = 0,         /* done */
     NABITEKE_RATE = 1,         /* the rate is not one of the six */
@@ -78,7 +80,9 @@ enum nabiteke_answer {
     NABITEKE_NBITS = 6,        /* nbits is above 3200 */
     NABITEKE_PITCH_INDEX = 7,  /* a present pitch has an index above 511 */
     NABITEKE_SAMPLE = 8,       /* a decoder's sample is NaN or beyond +-1048576 */
-    NABITEKE_UNFIT = 9         /* the struct was not started, or was overwritten */
+    NABITEKE_UNFIT = 9,        /* the struct was not started, or was overwritten */
+    NABITEKE_PADDING = 12,     /* a bit after a stored pitch, up to the end of its byte, is set */
+    NABITEKE_BYTE_COUNT = 15   /* there are fewer bytes than the pitch takes */
 };
 
 /* A decoder's state: 8768 bytes, aligned to 4. Its members are private: copy the whole struct or leave it alone. */
@@ -98,7 +102,7 @@ typedef struct nabiteke_encoder {
     float x_6p4[114];
 } nabiteke_encoder;
 
-/* A frame's pitch, which an encoder finds and a decoder takes. Where it is not present, the other two are not read. */
+/* A frame's pitch, which an encoder finds, a decoder takes and a recorder stores. Where it is not present, the other two are not read. */
 typedef struct nabiteke_pitch {
     uint32_t present; /* whether the frame has a pitch */
     uint32_t index;   /* the pitch index, 0 to 511 */
@@ -155,6 +159,9 @@ uint32_t nabiteke_encoder_frame_(uint32_t *numbers, float *memories, float *x_s,
                                  size_t correlation_count, const float *signal, size_t signal_count,
                                  const int16_t *samples, size_t sample_count, uint32_t nbits,
                                  uint32_t near_nyquist, uint32_t *record);
+uint32_t nabiteke_pitch_write_(uint32_t pitch_present, uint32_t pitch_index, uint32_t pitch_active, uint8_t *bytes,
+                               size_t byte_count, size_t *written);
+uint32_t nabiteke_pitch_read_(const uint8_t *bytes, size_t byte_count, uint32_t *record);
 
 /* Starts a decoder, or starts it anew: cleared histories, inactive, not settled. Answers 0, 1 or 2. */
 static inline uint32_t nabiteke_decoder_start(nabiteke_decoder *decoder, uint32_t rate, uint32_t duration)
@@ -223,6 +230,35 @@ static inline uint32_t nabiteke_encoder_frame(nabiteke_encoder *encoder, const n
     record->pitch.index = numbers[1];
     record->pitch.active = numbers[2];
     record->bits = numbers[3];
+    return answer;
+}
+
+/*
+ * Stores a pitch at the beginning of bytes, of which there are byte_count, and says in *written how many it took: 2 where
+ * a pitch is present, 1 where none is. The others stay as they were. Answers 0, 7 or 15; refused, it changes no
+ * byte and *written is 0.
+ * The form is bits, highest first: one for presence; if present, one for active and nine for the index; then zero bits to
+ * the end of the byte. Present, active, 380 is EF 80; absent is 00. This is not the order of the radio's stream.
+ */
+static inline uint32_t nabiteke_pitch_write(nabiteke_pitch pitch, uint8_t *bytes, size_t byte_count, size_t *written)
+{
+    return nabiteke_pitch_write_(pitch.present, pitch.index, pitch.active, bytes, byte_count, written);
+}
+
+/*
+ * Reads the pitch at the beginning of bytes into *pitch and says in *used how many it took; those that follow are not
+ * looked at. Answers 0, 12 or 15; refused, *pitch is absent and *used is 0. Flags are 0 or 1; index and active are 0 where
+ * no pitch is present. What nabiteke_pitch_write stored reads back, and no other bytes are that pitch.
+ */
+static inline uint32_t nabiteke_pitch_read(const uint8_t *bytes, size_t byte_count, nabiteke_pitch *pitch,
+                                           size_t *used)
+{
+    uint32_t numbers[4];
+    uint32_t answer = nabiteke_pitch_read_(bytes, byte_count, numbers);
+    pitch->present = numbers[0];
+    pitch->index = numbers[1];
+    pitch->active = numbers[2];
+    *used = numbers[3];
     return answer;
 }
 

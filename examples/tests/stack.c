@@ -8,10 +8,14 @@
 #include <string.h>
 
 enum { MAX_FRAME = 480, NBITS = 320, DEPTH = 32768, NEAR = 128, PAINT = 0xa5 };
-enum call { DECODER_START, DECODER_FRAME, DECODER_LOST, DECODER_SETTLED, ENCODER_START, ENCODER_FRAME, LENGTHS, CALLS };
+enum call {
+    DECODER_START, DECODER_FRAME, DECODER_LOST, DECODER_SETTLED, ENCODER_START, ENCODER_FRAME,
+    PITCH_WRITE, PITCH_READ, LENGTHS, CALLS
+};
 
 static const char *const names[CALLS] = {"decoder start", "decoder frame", "loss mark",    "settled report",
-                                         "encoder start", "encoder frame", "three lengths"};
+                                         "encoder start", "encoder frame", "pitch written", "pitch read",
+                                         "three lengths"};
 static size_t taken[CALLS];
 
 static nabiteke_decoder decoder;
@@ -23,7 +27,8 @@ static nabiteke_pitch pitch;
 static uint32_t rate, duration;
 static float samples[MAX_FRAME];
 static int16_t input[MAX_FRAME];
-static size_t frame;
+static size_t frame, used;
+static uint8_t bytes[2];
 
 static uint32_t make(enum call call)
 {
@@ -34,6 +39,8 @@ static uint32_t make(enum call call)
     case DECODER_SETTLED: return nabiteke_decoder_settled(&decoder) > 1;
     case ENCODER_START: return nabiteke_encoder_start(&encoder, rate, duration);
     case ENCODER_FRAME: return nabiteke_encoder_frame(&encoder, &sets, NBITS, input, frame, 0, &record);
+    case PITCH_WRITE: return nabiteke_pitch_write(pitch, bytes, sizeof bytes, &used);
+    case PITCH_READ: return nabiteke_pitch_read(bytes, sizeof bytes, &pitch, &used);
     default:
         frame = nabiteke_frame_length(rate, duration);
         return nabiteke_numerator_count(rate) == 0 || nabiteke_denominator_count(rate) == 0;
@@ -65,7 +72,7 @@ static int measure_frames(void)
         pitch = pitches[i];
         for (n = 0; n < frame; n++)
             input[n] = (int16_t)(n % (50 + 40 * i) * 100);
-        if (!measure(DECODER_FRAME) || !measure(ENCODER_FRAME))
+        if (!measure(DECODER_FRAME) || !measure(ENCODER_FRAME) || !measure(PITCH_WRITE) || !measure(PITCH_READ))
             return 0;
     }
     return 1;

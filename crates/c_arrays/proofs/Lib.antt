@@ -1,3 +1,3 @@
--- What the proofs share, and that a flag reads back.
+-- What the proofs share, and that a flag and a pitch read back.
 pub mod Flags
 pub mod Puts
