@@ -1,14 +1,14 @@
 -- A number and its bits.
-use Prim.Native.Nat.{ℕ, zero, suc, _+_, _*_, _/_, _%_, _^_, _≤_, _<_}
-use mathlib.Core.Path.{_≡_, refl, sym, ap, ap₂, subst, _∙_}
+use Prim.Native.Nat.{ℕ, zero, suc, _+_, _*_, _/_, _%_, _^_, _<_}
+use mathlib.Core.Path.{_≡_, refl, sym, ap, ap₂, _∙_}
 use mathlib.Core.Bool.{Bool, true, false, cond}
 use mathlib.Core.List.{List, [], _∷_, _++_}
-use native.Mathlib.Nat.{mod-one, mod-lt, mul-comm, mul-assoc, mul-add-div-right, add-comm, mul-one, zero-add, add-assoc, add-mul, suc-add, pow-suc}
+use native.Mathlib.Nat.{mod-one, mul-comm, add-comm, zero-add, add-mul, suc-add, pow-suc}
 use native.Mathlib.Omega.{arith}
-use borrow.Author.Tests.{eqb-true, eqb-false, eq-eqb, ne-eqb}
+use borrow.Author.Tests.{eqb-true, eqb-false, ne-eqb}
 use lib.Dec.{eqb}
 use lib.Arith.{mod-mul}
-use lib.Pow.{pow-pos, high, shr-shr, pow-add}
+use lib.Pow.{pow-pos, shr-shr, pow-add}
 use lib.ListN.{length, length-append}
 use Rattle.packing.specs.Bits.{bitsOf, valueOf, clear}
 
@@ -36,43 +36,6 @@ value-bits (suc w) n =
     ∙ ap (λ (k : ℕ). k + n % 2 ^ w) (bit-at (n / 2 ^ w % 2) (2 ^ w) (omega arith))
     ∙ sym (mod-mul n {m = 2} {c = 2 ^ w} (omega arith) (pow-pos w))
     ∙ ap (λ (k : ℕ). n % k) (mul-comm 2 (2 ^ w) ∙ sym (pow-suc 2 w))
-
--- bits below 2 ^ w do not see what stands above
-above : (w a n : ℕ) → bitsOf w (a * 2 ^ w + n) ≡ bitsOf w n
-unfolding bitsOf
-above zero a n = refl
-above (suc w) a n =
-    let up : a * 2 ^ suc w ≡ a * 2 * 2 ^ w = ap (λ (k : ℕ). a * k) (pow-suc 2 w ∙ mul-comm (2 ^ w) 2) ∙ sym (mul-assoc a 2 (2 ^ w)) in
-    let one : (a * 2 ^ suc w + n) / 2 ^ w % 2 ≡ n / 2 ^ w % 2 =
-    ap (λ (k : ℕ). (k + n) / 2 ^ w % 2) up ∙ ap (λ (k : ℕ). k % 2) (mul-add-div-right (pow-pos w) (a * 2) n) ∙ omega arith in
-    ap₂ {C = List Bool} (λ (x : ℕ) (rest : List Bool). eqb x 1 ∷ rest) one
-    (ap (λ (k : ℕ). bitsOf w (k + n)) up ∙ above w (a * 2) n)
-
--- bits are a number of as many bits
-pub value-below : (bits : List Bool) → valueOf bits < 2 ^ length bits
-unfolding valueOf
-value-below [] = omega arith
-value-below (true ∷ bits) = omega (arith, value-below bits, pow-suc 2 (length bits))
-value-below (false ∷ bits) = omega (arith, value-below bits, pow-suc 2 (length bits))
-
--- the bits of that number are those bits
-pub bits-value : (bits : List Bool) → bitsOf (length bits) (valueOf bits) ≡ bits
-unfolding bitsOf valueOf
-bits-value [] = refl
-bits-value (b ∷ bits) =
-    let m : ℕ = length bits in
-    let v : ℕ = valueOf bits in
-    ap (λ (k : ℕ). bitsOf (suc m) (k + v)) (top b)
-    ∙ ap₂ {C = List Bool} _∷_ (ap (λ (k : ℕ). eqb (k % 2) 1) (high (cond b 1 0) m (value-below bits)) ∙ back b)
-    (above m (cond b 1 0) v ∙ bits-value bits)
-  where
-    top : (b : Bool) → cond b (2 ^ length bits) 0 ≡ cond b 1 0 * 2 ^ length bits
-    top true = omega arith
-    top false = omega arith
-
-    back : (b : Bool) → eqb (cond b 1 0 % 2) 1 ≡ b
-    back true = refl
-    back false = refl
 
 -- bits after others
 pub value-append : (upper lower : List Bool) → valueOf (upper ++ lower) ≡ valueOf upper * 2 ^ length lower + valueOf lower

@@ -11,13 +11,12 @@ use lib.Seq.{take-append-seam}
 use Rattle.rates.specs.Answers.{numberOf}
 use Rattle.rates.specs.declared.answer.Answer.{Answer}
 use Rattle.rates.specs.declared.answer.Answer.the-variants.{Done, IndexTooLarge, PaddingSet, TooFewBytes}
-use Rattle.lag.specs.declared.pitch.Present.{Present as Mark}
 use Rattle.lag.specs.declared.pitch.PitchRecord.{PitchRecord}
 use Rattle.lag.specs.declared.pitch.PitchRecord.the-variants.{Absent, Present}
-use Rattle.packing.specs.Bits.{bitsOf, bitsIn, bytesOf, valueOf}
+use Rattle.packing.specs.Bits.{bitsOf, bytesOf, valueOf}
 use Rattle.packing.specs.Form.{form}
 use Rattle.packing.specs.Writings.{hasForm, refusedWriting, writing}
-use Rattle.packing.specs.Readings.{refusedReading, readBits, reading}
+use Rattle.packing.specs.Readings.{refusedReading, reading}
 use Rattle.packing.specs.declared.read.Reading.{Reading}
 use Rattle.packing.specs.declared.write.Writing.{Writing}
 use Rattle.packing.proofs.ByBytes.{done, indexIn, presentIn, none, absent-read, present-read, present-clear, early, form-present}
@@ -113,7 +112,7 @@ pub one-form : (bytes room : List ℕ) → ((i : ℕ) → getD bytes i 0 < 256) 
     (record { answer = Done; written = reading bytes .used }, take (reading bytes .used) bytes ++ drop (reading bytes .used) room)
 one-form bytes room b e l = go bytes b e room l
   where
-    from : (a : ℕ) (rest : List ℕ) → ((i : ℕ) → getD (a ∷ rest) i 0 < 256) → (small : Bool) → leb 128 a ≡ small → Formed (a ∷ rest) (reading (a ∷ rest))
+    from : (a : ℕ) (rest : List ℕ) → ((i : ℕ) → getD (a ∷ rest) i 0 < 256) → (present : Bool) → leb 128 a ≡ present → Formed (a ∷ rest) (reading (a ∷ rest))
     from a rest b false p = one-byte a rest (leb-false 128 a p)
     from a [] b true p = subst (Formed (a ∷ [])) (sym (early a (leb-true 128 a p) (b 0))) (no-record (a ∷ []) TooFewBytes (omega arith))
     from a (c ∷ rest) b true p = two-bytes a c rest (leb-true 128 a p) (b 0) (b 1)

@@ -1,5 +1,4 @@
 -- `read_absent`: below 128 a byte is clear exactly where it is 0.
-use mathlib.Core.Path.{sym}
 use borrow.Author.Needs.{needs}
 use borrow.Author.Tests.{ne-eqb}
 use Rattle.packing.proofs.ByBytes.{absent-read}
