@@ -6,7 +6,8 @@
  * How to use it
  *
  *   Keep a nabiteke_decoder or a nabiteke_encoder for each stream, start it, then make one call a frame.
- *   Every start, frame and loss mark answers with a number of enum nabiteke_answer, NABITEKE_DONE when all went well.
+ *   Every start, frame and loss mark, and the writing and reading of a pitch, answers with a number of enum
+ *   nabiteke_answer, NABITEKE_DONE when all went well.
  *   nabiteke_published.h has the standard's coefficients, which the frame calls are lent.
  *
  *   Flags are 0 for no and anything else for yes. Rates are in Hz: 8000, 16000, 24000, 32000, 44100 or 48000.
@@ -21,13 +22,13 @@
  *
  * What the caller owes
  *
- *   No value of a sample, a coefficient, a struct or a number but a count can do harm. To break one of these can, and
- *   no call can see it:
+ *   No value of a sample, a coefficient, a byte, a struct or a number but a count can do harm. To break one of these
+ *   can, and no call can see it:
  *   - a pointer is never NULL, and what it points to is there: a count says how many entries an array has;
- *   - floats and structs are aligned to 4 bytes, 16-bit samples to 2;
- *   - what a call writes (its struct, a decoder's samples, an encoder's record, a stored pitch) overlaps nothing else that it
- *     is lent;
- *   - two calls on one struct do not run at the same time.
+ *   - floats and structs are aligned to 4 bytes, 16-bit samples to 2, a size_t to 8;
+ *   - what a call writes (its struct, a decoder's samples, an encoder's record, a pitch or its bytes, a size_t) overlaps
+ *     nothing else that it is lent;
+ *   - two calls on one struct, or on bytes of which one writes, do not run at the same time.
  *   And floating point is as a program starts with it: rounding to nearest, subnormal numbers kept, no exception
  *   trapped (on x86-64 an MXCSR of 0x1f80). Audio hosts often have subnormals flushed (FTZ, DAZ): set that back for
  *   the call, or it gives other bits than are proved.
@@ -35,7 +36,8 @@
  * What a refused call leaves
  *
  *   A refused frame or loss mark changes nothing: the struct and the samples keep their bits (of a NaN's payload this
- *   is tested, not proved), and an encoder's record says absent, 0 bits. A refused start leaves the cleared state of 48000 Hz, 10000 us.
+ *   is tested, not proved), and an encoder's record says absent, 0 bits. A refused start leaves the cleared state of
+ *   48000 Hz, 10000 us. A refused writing of a pitch changes no byte and says 0; a refused reading gives absent and 0.
  *   A struct that was never started is no danger: one of zero bytes is answered with NABITEKE_UNFIT, and one of
  *   any other bytes is answered with NABITEKE_UNFIT or works like a started one with that past.
  *
@@ -58,8 +60,8 @@
 #define NABITEKE_VERSION_MAJOR 1
 #define NABITEKE_VERSION_MINOR 2
 #define NABITEKE_VERSION_PATCH 0
-/* One number, which rises from version to version: 10200 is 1.2.0. Since 1.1.0 a decoder at 44100 gives what one at 48000 gives;
-   since 1.2.0 a pitch can be stored as bytes. */
+/* One number, which rises from version to version: 10200 is 1.2.0. Since 1.1.0 a decoder at 44100 gives what one at
+   48000 gives; since 1.2.0 a pitch can be packed. */
 #define NABITEKE_VERSION (NABITEKE_VERSION_MAJOR * 10000 + NABITEKE_VERSION_MINOR * 100 + NABITEKE_VERSION_PATCH)
 
 #define NABITEKE_STACK 12288
@@ -81,8 +83,8 @@ enum nabiteke_answer {
     NABITEKE_PITCH_INDEX = 7,  /* a present pitch has an index above 511 */
     NABITEKE_SAMPLE = 8,       /* a decoder's sample is NaN or beyond +-1048576 */
     NABITEKE_UNFIT = 9,        /* the struct was not started, or was overwritten */
-    NABITEKE_PADDING = 12,     /* a bit after a stored pitch, up to the end of its byte, is set */
-    NABITEKE_BYTE_COUNT = 15   /* there are fewer bytes than the pitch takes */
+    NABITEKE_PADDING = 12,     /* a bit in the padding of a packed pitch is set */
+    NABITEKE_BYTE_COUNT = 15   /* a packed pitch has too little room, or its bytes end early */
 };
 
 /* A decoder's state: 8768 bytes, aligned to 4. Its members are private: copy the whole struct or leave it alone. */
@@ -102,7 +104,7 @@ typedef struct nabiteke_encoder {
     float x_6p4[114];
 } nabiteke_encoder;
 
-/* A frame's pitch, which an encoder finds, a decoder takes and a recorder stores. Where it is not present, the other two are not read. */
+/* A frame's pitch, which an encoder finds and a decoder takes. Where it is not present, the other two are not read. */
 typedef struct nabiteke_pitch {
     uint32_t present; /* whether the frame has a pitch */
     uint32_t index;   /* the pitch index, 0 to 511 */
@@ -234,9 +236,9 @@ static inline uint32_t nabiteke_encoder_frame(nabiteke_encoder *encoder, const n
 }
 
 /*
- * Stores a pitch at the beginning of bytes, of which there are byte_count, and says in *written how many it took: 2 where
- * a pitch is present, 1 where none is. The others stay as they were. Answers 0, 7 or 15; refused, it changes no
- * byte and *written is 0.
+ * Packs a pitch as the recorder stores it: writes it at the beginning of bytes, of which there are byte_count, and says in
+ * *written how many it took, 2 where a pitch is present and 1 where none is. The others stay as they were. Answers 0,
+ * 7 or 15; refused, it changes no byte and *written is 0.
  * The form is bits, highest first: one for presence; if present, one for active and nine for the index; then zero bits to
  * the end of the byte. Present, active, 380 is EF 80; absent is 00. This is not the order of the radio's stream.
  */
@@ -246,9 +248,9 @@ static inline uint32_t nabiteke_pitch_write(nabiteke_pitch pitch, uint8_t *bytes
 }
 
 /*
- * Reads the pitch at the beginning of bytes into *pitch and says in *used how many it took; those that follow are not
- * looked at. Answers 0, 12 or 15; refused, *pitch is absent and *used is 0. Flags are 0 or 1; index and active are 0 where
- * no pitch is present. What nabiteke_pitch_write stored reads back, and no other bytes are that pitch.
+ * Reads the packed pitch at the beginning of bytes into *pitch and says in *used how many it took; those that follow are
+ * not looked at. Answers 0, 12 or 15; refused, *pitch is absent and *used is 0. Flags are 0 or 1; index and active are 0
+ * where no pitch is present. What nabiteke_pitch_write wrote reads back, and no other bytes are that pitch.
  */
 static inline uint32_t nabiteke_pitch_read(const uint8_t *bytes, size_t byte_count, nabiteke_pitch *pitch,
                                            size_t *used)

@@ -1,6 +1,6 @@
 /*
- * Stores every pitch as bytes and reads it back, and reads every byte and every pair of bytes. What it prints is compared with
- * what crate packing_run prints, which another packer made (oracle/packing.py).
+ * Packs every pitch and reads it back, and reads every byte and every pair of bytes. What it prints is compared with what
+ * crate packing_run must print, which another packer made (oracle/packing.py).
  */
 #include "nabiteke.h"
 #include <stdio.h>
@@ -33,11 +33,11 @@ static void print_reading(uint32_t answer, nabiteke_pitch pitch, size_t used)
     printf("%u\n", (unsigned)used);
 }
 
-/* A pitch stored in so many bytes, and what they are read as. What a call gives is set to something else before it. */
-static void store(nabiteke_pitch pitch, size_t room)
+/* A pitch packed into so many bytes, and what they are read as. What a call gives is set to something else before it. */
+static void pack(nabiteke_pitch pitch, size_t room)
 {
     uint8_t bytes[ROOM];
-    size_t written = 99, used = 99;
+    size_t written = 99, used = 99, i;
     nabiteke_pitch back = {99, 99, 99};
     uint32_t answer;
     memset(bytes, FILL, sizeof bytes);
@@ -45,6 +45,9 @@ static void store(nabiteke_pitch pitch, size_t room)
     print_pitch(pitch);
     printf("%u\t%u\t%u\t", (unsigned)room, (unsigned)answer, (unsigned)written);
     print_bytes(bytes, room);
+    for (i = room; i < ROOM; i++)
+        if (bytes[i] != FILL)
+            printf("a byte beyond the room was written\n");
     answer = nabiteke_pitch_read(bytes, room, &back, &used);
     print_reading(answer, back, used);
 }
@@ -71,18 +74,18 @@ static void read_every(size_t width, unsigned count)
 
 int main(void)
 {
-    static const nabiteke_pitch close[] = {{1, 0, 0}, {1, 511, 1}, {1, 512, 0}, {1, 4294967295u, 1}, {0, 0, 0}};
+    static const nabiteke_pitch little[] = {{1, 0, 0}, {1, 511, 1}, {1, 512, 0}, {1, 4294967295u, 1}, {0, 0, 0}};
     nabiteke_pitch pitch = {1, 0, 0};
     const nabiteke_pitch absent = {0, 0, 0};
     size_t room, i;
     printf("index\tactive\troom\tanswer\twritten\tbytes\tanswer\tindex\tactive\tused\n");
     for (pitch.index = 0; pitch.index < 512; pitch.index++)
         for (pitch.active = 0; pitch.active < 2; pitch.active++)
-            store(pitch, ROOM);
-    store(absent, ROOM);
+            pack(pitch, ROOM);
+    pack(absent, ROOM);
     for (room = 0; room < ROOM; room++)
-        for (i = 0; i < sizeof close / sizeof *close; i++)
-            store(close[i], room);
+        for (i = 0; i < sizeof little / sizeof *little; i++)
+            pack(little[i], room);
     printf("bytes\tanswer\tindex\tactive\tused\n");
     read_every(0, 1);
     read_every(1, 256);

@@ -18,7 +18,7 @@ pub fn pitch_from(present: u32, index: u32, active: u32) -> PitchRecord
     PitchRecord::Absent
 }
 
-// And with it the frame's bits.
+// The same, with the frame's bits.
 pub fn read_side(present: u32, index: u32, active: u32, nbits: u32) -> SideInfo
     ensures { λ r. ⌜ r ≡ sideFrom present index active nbits ⌝ }
 {

@@ -77,6 +77,11 @@ form-present i active =
     (value-bits 6 (i / 8))
     (value-append (bitsOf 3 i) (replicate 5 false) ∙ omega (arith, value-bits 3 i))
 
+-- the forms that the recorder's rules name: present, active, 380 is EF 80, and absent is 00
+pub stated-forms : (form (Present (record { index = 380; active = true })) ≡ 239 ∷ 128 ∷ []) × (form Absent ≡ 0 ∷ [])
+unfolding form bytesOf bitsOf valueOf
+stated-forms = (refl, refl)
+
 -- no reading uses more than two bytes
 pub at-most-two : (bytes : List ℕ) → reading bytes .used ≤ 2
 unfolding reading readBits

@@ -1,4 +1,4 @@
--- What is written reads back, and what is read was written in the one form that it has.
+-- What is written reads back, and what is read stands in the one form that its record has.
 use Prim.Native.Nat.{ℕ, _+_, _*_, _/_, _%_, _≤_, _<_}
 use mathlib.Core.Path.{_≡_, refl, sym, ap, ap₂, subst, _∙_}
 use mathlib.Core.Bool.{Bool, true, false, cond}

@@ -58,7 +58,7 @@ fn write_present(bytes: &mut [u8], present: Present) -> Writing
     }
 }
 
-// An absent one takes one.
+// An absent record takes one byte.
 fn write_absent(bytes: &mut [u8]) -> Writing
     ensures { λ r. ⌜ (r, now (bytes .exit)) ≡ writing PitchRecord.Absent (now (bytes .entry)) ⌝ }
 {

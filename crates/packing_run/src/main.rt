@@ -89,8 +89,8 @@ fn write_every() -> bool {
 }
 
 // Records with and without a form, in a room of two bytes or less.
-fn write_close(room: usize) -> bool
-    requires { ⌜ room ≤ 3 ⌝ }
+fn write_in_little_room(room: usize) -> bool
+    requires { ⌜ room ≤ 2 ⌝ }
 {
     write_present(room, 0, false)
         && write_present(room, 511, true)
@@ -112,23 +112,24 @@ fn is_padding_refused(reading: Reading) -> bool {
     number(answer) == 12
 }
 
-// What became of a reading: refused so, listed, or not listed since nothing more can be written.
-enum Listed {
-    Refused,
-    Yes,
-    No,
+// What became of a reading: it is counted as refused with 12, or listed, or nothing can be written
+// any more.
+enum Outcome {
+    Counted,
+    Listed,
+    Failed,
 }
 
-fn read_line(bytes: &[u8]) -> Listed {
+fn read_line(bytes: &[u8]) -> Outcome {
     let reading = read_pitch(bytes);
     if is_padding_refused(reading) {
-        return Listed::Refused;
+        return Outcome::Counted;
     }
     print_bytes(bytes);
     if print_reading(reading) {
-        return Listed::Yes;
+        return Outcome::Listed;
     }
-    Listed::No
+    Outcome::Failed
 }
 
 // The i-th of all runs of one byte or of two.
@@ -140,20 +141,21 @@ fn run_of_bytes(width: usize, i: u32) -> [u8; 2] {
     [(i / 256 % 256) as u8, low]
 }
 
-fn read_run(width: usize, i: u32) -> Listed
+fn read_run(width: usize, i: u32) -> Outcome
     requires { ⌜ width ≤ 2 ⌝ }
 {
     let bytes = run_of_bytes(width, i);
     read_line(&bytes[..width])
 }
 
-fn refusals(listed: Listed) -> u64
+// 1 where a reading is counted.
+fn counted(read: Outcome) -> u64
     ensures { λ r. ⌜ r ≤ 1 ⌝ }
 {
-    match listed {
-        Listed::Refused => 1,
-        Listed::Yes => 0,
-        Listed::No => 0,
+    match read {
+        Outcome::Counted => 1,
+        Outcome::Listed => 0,
+        Outcome::Failed => 0,
     }
 }
 
@@ -163,11 +165,11 @@ fn read_every(width: usize, count: u32) -> bool
 {
     let mut refused: u64 = 0;
     for i in 0..count {
-        let listed = read_run(width, i);
-        if let Listed::No = listed {
+        let read = read_run(width, i);
+        if let Outcome::Failed = read {
             return false;
         }
-        refused += refusals(listed);
+        refused += counted(read);
     }
     print_cell(width as u64);
     print_cell(12);
@@ -180,9 +182,9 @@ fn main() {
         b"index\tactive\troom\tanswer\twritten\tbytes\tanswer\tindex\tactive\tused\n",
     )
         && write_every()
-        && write_close(0)
-        && write_close(1)
-        && write_close(2)
+        && write_in_little_room(0)
+        && write_in_little_room(1)
+        && write_in_little_room(2)
         && outcome::write_out(b"bytes\tanswer\tindex\tactive\tused\n")
         && read_every(0, 1)
         && read_every(1, 256)
