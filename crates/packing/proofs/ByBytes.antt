@@ -13,6 +13,7 @@ use Rattle.lag.specs.declared.pitch.PitchRecord.{PitchRecord}
 use Rattle.lag.specs.declared.pitch.PitchRecord.the-variants.{Absent, Present}
 use Rattle.packing.specs.Bits.{bitsOf, valueOf, bitsIn, bytesOf, clear}
 use Rattle.packing.specs.Form.{form}
+use Rattle.packing.specs.Writings.{hasForm, writing}
 use Rattle.packing.specs.Readings.{refusedReading, readAs, presentFrom, readBits, reading}
 use Rattle.packing.specs.declared.read.Reading.{Reading}
 use Rattle.packing.proofs.Numbers.{value-bits, value-append, bits-append, clear-zero}
@@ -81,6 +82,12 @@ form-present i active =
 pub stated-forms : (form (Present (record { index = 380; active = true })) ≡ 239 ∷ 128 ∷ []) × (form Absent ≡ 0 ∷ [])
 unfolding form bytesOf bitsOf valueOf
 stated-forms = (refl, refl)
+
+-- a record whose form is these bytes, written where they fit
+pub written-over : (pitch : PitchRecord) (bytes room : List ℕ) → hasForm pitch ≡ true → form pitch ≡ bytes → length bytes ≤ length room →
+    writing pitch room ≡ (record { answer = Done; written = length bytes }, bytes ++ drop (length bytes) room)
+unfolding writing
+written-over pitch bytes room h e l = rw (h, e, le-ltb (length room) (length bytes) l)
 
 -- no reading uses more than two bytes
 pub at-most-two : (bytes : List ℕ) → reading bytes .used ≤ 2

@@ -4,7 +4,7 @@ use mathlib.Core.Path.{_≡_, refl, sym, ap, ap₂, subst, _∙_}
 use mathlib.Core.Bool.{Bool, true, false, cond}
 use mathlib.Core.List.{List, [], _∷_, _++_}
 use native.Mathlib.Omega.{arith}
-use borrow.Author.Tests.{eq-eqb, ne-eqb, eqb-true, eqb-false, le-leb, leb-true, leb-false, le-ltb}
+use borrow.Author.Tests.{eq-eqb, ne-eqb, eqb-true, eqb-false, le-leb, leb-true, leb-false}
 use lib.Dec.{eqb, leb, ltb}
 use lib.ListN.{length, take, drop, getD}
 use lib.Seq.{take-append-seam}
@@ -19,7 +19,7 @@ use Rattle.packing.specs.Writings.{hasForm, refusedWriting, writing}
 use Rattle.packing.specs.Readings.{refusedReading, reading}
 use Rattle.packing.specs.declared.read.Reading.{Reading}
 use Rattle.packing.specs.declared.write.Writing.{Writing}
-use Rattle.packing.proofs.ByBytes.{done, indexIn, presentIn, none, absent-read, present-read, present-clear, early, form-present}
+use Rattle.packing.proofs.ByBytes.{done, indexIn, presentIn, none, absent-read, present-read, present-clear, early, form-present, written-over}
 
 -- a form reads as its record, whatever follows
 form-read : (pitch : PitchRecord) (more : List ℕ) → hasForm pitch ≡ true → reading (form pitch ++ more) ≡ done pitch (length (form pitch))
@@ -68,12 +68,6 @@ reads-back pitch bytes more = go (hasForm pitch) (ltb (length bytes) (length (fo
     go true true h e = absurd (omega (arith, ap numberOf e))
     go true false h e =
         ap (λ (front : List ℕ). reading (front ++ more)) (take-append-seam (form pitch) (drop (length (form pitch)) bytes)) ∙ form-read pitch more h
-
--- a record whose form is these bytes, written where they fit
-written-over : (pitch : PitchRecord) (bytes room : List ℕ) → hasForm pitch ≡ true → form pitch ≡ bytes → length bytes ≤ length room →
-    writing pitch room ≡ (record { answer = Done; written = length bytes }, bytes ++ drop (length bytes) room)
-unfolding writing
-written-over pitch bytes room h e l = rw (h, e, le-ltb (length room) (length bytes) l)
 
 -- where a reading is done, writing its record gives the bytes that it used
 abbrev Formed : List ℕ → Reading → Type 0

@@ -1,14 +1,18 @@
 -- `write_absent`: the form is one byte.
 use Prim.Native.Nat.{ℕ, _≤_}
-use mathlib.Core.Path.{_≡_, refl}
+use mathlib.Core.Path.{_≡_, refl, sym, ap, _∙_}
 use mathlib.Core.List.{List, [], _∷_}
 use native.Mathlib.Omega.{arith}
 use borrow.Author.Needs.{needs}
-use borrow.Author.Tests.{lt-ltb, le-ltb}
+use borrow.Author.Tests.{lt-ltb}
 use lib.ListN.{length, set, drop}
+use Rattle.rates.specs.declared.answer.Answer.the-variants.{Done}
+use Rattle.lag.specs.declared.pitch.PitchRecord.the-variants.{Absent}
 use Rattle.packing.specs.Bits.{bytesOf, valueOf}
 use Rattle.packing.specs.Form.{form}
 use Rattle.packing.specs.Writings.{writing}
+use Rattle.packing.specs.declared.write.Writing.{Writing}
+use Rattle.packing.proofs.ByBytes.{written-over}
 use Rattle.packing.proofs.write.write_absent.Statement.{statement}
 use Rattle.packing.proofs.write.write_absent.Tie as tie
 
@@ -17,8 +21,11 @@ over [] a h = absurd (omega (arith, h))
 over (x ∷ bytes) a h = refl
 
 returns : tie.Need-returns
-unfolding writing form bytesOf valueOf
-returns c = rw (le-ltb _ _ (c .if1 .taken), over (c .before .before .args .bytes .now) 0 (search needs))
+unfolding form bytesOf valueOf
+returns c =
+    let bytes : List ℕ = c .before .before .args .bytes .now in
+    ap {B = Writing × List ℕ} (λ (after : List ℕ). (record { answer = Done; written = 1 }, after)) (over bytes 0 (search needs))
+    ∙ sym (written-over Absent (0 ∷ []) bytes refl refl (search needs))
 
 returns-2 : tie.Need-returns-2
 unfolding writing form bytesOf
