@@ -15,7 +15,7 @@ pitchFrom present index active = cond (isYes present) (Present (record { index =
 unfoldable pub sideFrom : ℕ → ℕ → ℕ → ℕ → SideInfo
 sideFrom present index active nbits = record { pitch = pitchFrom present index active; nbits = nbits }
 
--- a record: present, index, active, and its length in bits or in bytes
+-- a record: present, index, active, and its size in bits or in bytes
 abbrev pub recordOf : PitchRecord → ℕ → List ℕ
 recordOf Absent size = 0 ∷ 0 ∷ 0 ∷ size ∷ []
 recordOf (Present p) size = 1 ∷ p .index ∷ asFlag (p .active) ∷ size ∷ []

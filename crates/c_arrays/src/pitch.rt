@@ -26,7 +26,7 @@ pub fn read_side(present: u32, index: u32, active: u32, nbits: u32) -> SideInfo
     SideInfo { pitch, nbits }
 }
 
-// A pitch record and its length, in bits or in bytes, as four numbers.
+// A pitch record and its size, in bits or in bytes, as four numbers.
 pub fn write_record(record: &mut [u32; 4], pitch: PitchRecord, size: u32)
     ensures { λ _. ⌜ now («record» .exit) ≡ recordOf pitch size ⌝ }
 {

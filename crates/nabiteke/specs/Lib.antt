@@ -1,4 +1,4 @@
--- What C sees: lengths, then the decoder and the encoder, each first its arrays and then its calls.
+-- What C sees: lengths, then the decoder and the encoder, each first its arrays and then its calls, and a packed pitch.
 pub mod Lengths
 pub mod DecoderArrays
 pub mod DecoderCalls

@@ -1,4 +1,4 @@
--- A pitch stored as bytes and read back, from C.
+-- A pitch packed into bytes and read back, from C.
 use Prim.Native.Nat.{ℕ}
 use mathlib.Core.List.{List}
 use Rattle.rates.specs.Answers.{numberOf}

@@ -1,4 +1,4 @@
-// The functions for C that store a pitch as bytes and read it back.
+// The functions for C that pack a pitch into bytes and read it back.
 use c_arrays::pitch::pitch_from;
 use c_arrays::pitch::write_record;
 use c_arrays::words::answer_word;

@@ -13,7 +13,7 @@ use Rattle.lag.specs.declared.pitch.PitchRecord.{PitchRecord}
 use Rattle.lag.specs.declared.pitch.PitchRecord.the-variants.{Absent, Present}
 use Rattle.packing.specs.Bits.{bitsOf, valueOf, bitsIn, bytesOf, clear}
 use Rattle.packing.specs.Form.{form}
-use Rattle.packing.specs.Writings.{hasForm, writing}
+use Rattle.packing.specs.Writings.{indexTooLarge, writing}
 use Rattle.packing.specs.Readings.{refusedReading, readAs, presentFrom, readBits, reading}
 use Rattle.packing.specs.declared.read.Reading.{Reading}
 use Rattle.packing.proofs.Numbers.{value-bits, value-append, bits-append, clear-zero}
@@ -22,15 +22,18 @@ use Rattle.packing.proofs.Numbers.{value-bits, value-append, bits-appen
 abbrev pub done : PitchRecord → ℕ → Reading
 done pitch used = record { answer = Done; pitch = pitch; used = used }
 
-pub clear-low : (w n : ℕ) → clear (bitsOf w n) ≡ eqb (n % 2 ^ w) 0
+-- and one that goes well where the padding is clear
+abbrev pub ifClear : Bool → PitchRecord → ℕ → Reading
+ifClear clear pitch used = cond clear (done pitch used) (refusedReading PaddingSet)
+
+clear-low : (w n : ℕ) → clear (bitsOf w n) ≡ eqb (n % 2 ^ w) 0
 clear-low w n = clear-zero (bitsOf w n) ∙ ap (λ (k : ℕ). eqb k 0) (value-bits w n)
 
-pub absent-read : (a : ℕ) (rest : List ℕ) → a < 128 → reading (a ∷ rest) ≡ cond (eqb a 0) (done Absent 1) (refusedReading PaddingSet)
+pub absent-read : (a : ℕ) (rest : List ℕ) → a < 128 → reading (a ∷ rest) ≡ ifClear (eqb a 0) Absent 1
 unfolding reading readBits bitsIn bitsOf
 absent-read a rest h =
     ap (λ (b : Bool). readBits (b ∷ (bitsOf 7 a ++ bitsIn rest))) (ne-eqb (a / 128 % 2) 1 (λ e. absurd (omega (arith, h, e))))
-    ∙ ap (λ (b : Bool). cond b (done Absent 1) (refusedReading PaddingSet))
-    (clear-low 7 a ∙ ap (λ (k : ℕ). eqb k 0) (mod-eq-of-lt h))
+    ∙ ap (λ (b : Bool). ifClear b Absent 1) (clear-low 7 a ∙ ap (λ (k : ℕ). eqb k 0) (mod-eq-of-lt h))
 
 -- the index that stands in the lower six bits of a byte and the upper three of the next
 abbrev pub indexIn : ℕ → ℕ → ℕ
@@ -40,24 +43,24 @@ abbrev pub presentIn : ℕ → ℕ → PitchRecord
 presentIn a b = Present (record { index = indexIn a b; active = eqb (a / 64 % 2) 1 })
 
 pub present-read : (a b : ℕ) (rest : List ℕ) → 128 ≤ a → a < 256 → b < 256 →
-    reading (a ∷ b ∷ rest) ≡ cond (eqb (b % 32) 0) (done (presentIn a b) 2) (refusedReading PaddingSet)
+    reading (a ∷ b ∷ rest) ≡ ifClear (eqb (b % 32) 0) (presentIn a b) 2
 unfolding reading readBits bitsIn bitsOf
 present-read a b rest l u v =
     let bits : List Bool = bitsOf 7 a ++ (bitsOf 3 (b / 32) ++ bitsOf 5 b ++ bitsIn rest) in
     ap (λ (x : Bool). readBits (x ∷ (bitsOf 7 a ++ (bitsOf 8 b ++ bitsIn rest)))) (eq-eqb (a / 128 % 2) 1 (omega (arith, l, u)))
     ∙ ap (λ (second : List Bool). readBits (true ∷ (bitsOf 7 a ++ (second ++ bitsIn rest)))) (bits-append 3 5 b)
     ∙ ap (λ (x : Bool). cond x (refusedReading TooFewBytes) (readAs (presentFrom bits) 11 (true ∷ bits))) (le-ltb (length bits) 10 (omega arith))
-    ∙ ap₂ (λ (x : Bool) (i : ℕ). cond x (done (Present (record { index = i; active = eqb (a / 64 % 2) 1 })) 2) (refusedReading PaddingSet))
+    ∙ ap₂ (λ (x : Bool) (i : ℕ). ifClear x (Present (record { index = i; active = eqb (a / 64 % 2) 1 })) 2)
     (clear-low 5 b)
     (value-append (bitsOf 6 a) (bitsOf 3 (b / 32)) ∙ omega (arith, v, value-bits 6 a, value-bits 3 (b / 32)))
 
 pub present-clear : (a b : ℕ) (rest : List ℕ) → 128 ≤ a → a < 256 → b < 256 → b % 32 ≡ 0 → reading (a ∷ b ∷ rest) ≡ done (presentIn a b) 2
 present-clear a b rest l u v e =
-    present-read a b rest l u v ∙ ap (λ (x : Bool). cond x (done (presentIn a b) 2) (refusedReading PaddingSet)) (eq-eqb (b % 32) 0 e)
+    present-read a b rest l u v ∙ ap (λ (x : Bool). ifClear x (presentIn a b) 2) (eq-eqb (b % 32) 0 e)
 
 pub present-set : (a b : ℕ) (rest : List ℕ) → 128 ≤ a → a < 256 → b < 256 → (b % 32 ≡ 0 → ⊥) → reading (a ∷ b ∷ rest) ≡ refusedReading PaddingSet
 present-set a b rest l u v n =
-    present-read a b rest l u v ∙ ap (λ (x : Bool). cond x (done (presentIn a b) 2) (refusedReading PaddingSet)) (ne-eqb (b % 32) 0 n)
+    present-read a b rest l u v ∙ ap (λ (x : Bool). ifClear x (presentIn a b) 2) (ne-eqb (b % 32) 0 n)
 
 -- the bytes end early: none at all, or one that says present
 pub none : reading [] ≡ refusedReading TooFewBytes
@@ -84,7 +87,7 @@ unfolding form bytesOf bitsOf valueOf
 stated-forms = (refl, refl)
 
 -- a record whose form is these bytes, written where they fit
-pub written-over : (pitch : PitchRecord) (bytes room : List ℕ) → hasForm pitch ≡ true → form pitch ≡ bytes → length bytes ≤ length room →
+pub written-over : (pitch : PitchRecord) (bytes room : List ℕ) → indexTooLarge pitch ≡ false → form pitch ≡ bytes → length bytes ≤ length room →
     writing pitch room ≡ (record { answer = Done; written = length bytes }, bytes ++ drop (length bytes) room)
 unfolding writing
 written-over pitch bytes room h e l = rw (h, e, le-ltb (length room) (length bytes) l)
@@ -94,16 +97,13 @@ pub at-most-two : (bytes : List ℕ) → reading bytes .used ≤ 2
 unfolding reading readBits
 at-most-two bytes = go (bitsIn bytes)
   where
-    either : (b : Bool) (pitch : PitchRecord) (used : ℕ) → used ≤ 2 → cond b (done pitch used) (refusedReading PaddingSet) .used ≤ 2
-    either true pitch used h = h
-    either false pitch used h = omega arith
-
-    unless-short : (b : Bool) (r : Reading) → r .used ≤ 2 → cond b (refusedReading TooFewBytes) r .used ≤ 2
-    unless-short true r h = omega arith
-    unless-short false r h = h
+    part : (b : Bool) (x y : Reading) → x .used ≤ 2 → y .used ≤ 2 → cond b x y .used ≤ 2
+    part true x y p q = p
+    part false x y p q = q
 
     go : (bits : List Bool) → readBits bits .used ≤ 2
     go [] = omega arith
-    go (false ∷ bits) = either (clear (take 7 bits)) Absent 1 (omega arith)
+    go (false ∷ bits) = part (clear (take 7 bits)) (done Absent 1) (refusedReading PaddingSet) (omega arith) (omega arith)
     go (true ∷ bits) =
-        unless-short (ltb (length bits) 10) (readAs (presentFrom bits) 11 (true ∷ bits)) (either (clear (take 5 (drop 10 bits))) (presentFrom bits) 2 (omega arith))
+        part (ltb (length bits) 10) (refusedReading TooFewBytes) (readAs (presentFrom bits) 11 (true ∷ bits)) (omega arith)
+        (part (clear (take 5 (drop 10 bits))) (done (presentFrom bits) 2) (refusedReading PaddingSet) (omega arith) (omega arith))

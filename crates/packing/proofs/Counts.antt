@@ -31,6 +31,10 @@ by-bytes test a b u v = go (leb 128 a) refl
     go true p = ap test (present-read a b [] (leb-true 128 a p) u v) ∙ part (eqb (b % 32) 0) (done (presentIn a b) 2) (refusedReading PaddingSet)
     go false p = ap test (absent-read a (b ∷ []) (leb-false 128 a p)) ∙ part (eqb a 0) (done Absent 1) (refusedReading PaddingSet)
 
+same : (c x : Bool) → cond c x x ≡ x
+same true x = refl
+same false x = refl
+
 -- present: the highest bit of the first byte is set and the lowest five of the second are not
 pub present-exactly : (a b : ℕ) → a < 256 → b < 256 → asPresent (reading (a ∷ b ∷ [])) ≡ (leb 128 a && eqb (b % 32) 0)
 present-exactly a b u v = by-bytes asPresent a b u v ∙ go (leb 128 a) (eqb (b % 32) 0) (eqb a 0)
@@ -38,16 +42,14 @@ present-exactly a b u v = by-bytes asPresent a b u v ∙ go (leb 128 a) (eqb (b 
     go : (p c z : Bool) → cond p (cond c true false) (cond z false false) ≡ (p && c)
     go true true z = refl
     go true false z = refl
-    go false c true = refl
-    go false c false = refl
+    go false c z = same z false
 
 -- absent: the first byte is 00
 pub absent-exactly : (a b : ℕ) → a < 256 → b < 256 → asAbsent (reading (a ∷ b ∷ [])) ≡ eqb a 0
 absent-exactly a b u v = by-bytes asAbsent a b u v ∙ go (leb 128 a) refl (eqb (b % 32) 0) (eqb a 0) refl
   where
     go : (p : Bool) → leb 128 a ≡ p → (c z : Bool) → eqb a 0 ≡ z → cond p (cond c false false) (cond z true false) ≡ z
-    go true p true z e = sym (ne-eqb a 0 (λ h. absurd (omega (arith, h, leb-true 128 a p)))) ∙ e
-    go true p false z e = sym (ne-eqb a 0 (λ h. absurd (omega (arith, h, leb-true 128 a p)))) ∙ e
+    go true p c z e = same c false ∙ sym (ne-eqb a 0 (λ h. absurd (omega (arith, h, leb-true 128 a p)))) ∙ e
     go false p c true e = refl
     go false p c false e = refl
 

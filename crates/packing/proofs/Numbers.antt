@@ -12,7 +12,7 @@ use lib.Pow.{pow-pos, shr-shr, pow-add}
 use lib.ListN.{length, length-append}
 use Rattle.packing.specs.Bits.{bitsOf, valueOf, clear}
 
-pub length-bits : (w n : ℕ) → length (bitsOf w n) ≡ w
+length-bits : (w n : ℕ) → length (bitsOf w n) ≡ w
 unfolding bitsOf
 length-bits zero n = refl
 length-bits (suc w) n = ap suc (length-bits w n)

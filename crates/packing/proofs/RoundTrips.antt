@@ -4,7 +4,7 @@ use mathlib.Core.Path.{_≡_, refl, sym, ap, ap₂, subst, _∙_}
 use mathlib.Core.Bool.{Bool, true, false, cond}
 use mathlib.Core.List.{List, [], _∷_, _++_}
 use native.Mathlib.Omega.{arith}
-use borrow.Author.Tests.{eq-eqb, ne-eqb, eqb-true, eqb-false, le-leb, leb-true, leb-false}
+use borrow.Author.Tests.{eq-eqb, ne-eqb, eqb-true, eqb-false, le-ltb, ltb-false, leb-true, leb-false}
 use lib.Dec.{eqb, leb, ltb}
 use lib.ListN.{length, take, drop, getD}
 use lib.Seq.{take-append-seam}
@@ -15,14 +15,14 @@ use Rattle.lag.specs.declared.pitch.PitchRecord.{PitchRecord}
 use Rattle.lag.specs.declared.pitch.PitchRecord.the-variants.{Absent, Present}
 use Rattle.packing.specs.Bits.{bitsOf, bytesOf, valueOf}
 use Rattle.packing.specs.Form.{form}
-use Rattle.packing.specs.Writings.{hasForm, refusedWriting, writing}
+use Rattle.packing.specs.Writings.{indexTooLarge, refusedWriting, writing}
 use Rattle.packing.specs.Readings.{refusedReading, reading}
 use Rattle.packing.specs.declared.read.Reading.{Reading}
 use Rattle.packing.specs.declared.write.Writing.{Writing}
-use Rattle.packing.proofs.ByBytes.{done, indexIn, presentIn, none, absent-read, present-read, present-clear, early, form-present, written-over}
+use Rattle.packing.proofs.ByBytes.{done, ifClear, indexIn, presentIn, none, absent-read, present-read, present-clear, early, form-present, written-over}
 
 -- a form reads as its record, whatever follows
-form-read : (pitch : PitchRecord) (more : List ℕ) → hasForm pitch ≡ true → reading (form pitch ++ more) ≡ done pitch (length (form pitch))
+form-read : (pitch : PitchRecord) (more : List ℕ) → indexTooLarge pitch ≡ false → reading (form pitch ++ more) ≡ done pitch (length (form pitch))
 unfolding form bytesOf bitsOf valueOf
 form-read Absent more h = absent-read 0 more (omega arith)
 form-read (Present p) more h =
@@ -41,8 +41,8 @@ form-read (Present p) more h =
     below false = omega arith
 
     index : (on : Bool) → 8 * (first on % 64) + 32 * (i % 8) / 32 ≡ i
-    index true = omega (arith, leb-true i 511 h)
-    index false = omega (arith, leb-true i 511 h)
+    index true = omega (arith, ltb-false 511 i h)
+    index false = omega (arith, ltb-false 511 i h)
 
     active : (on : Bool) → eqb (first on / 64 % 2) 1 ≡ on
     active true = eq-eqb (first true / 64 % 2) 1 (omega arith)
@@ -53,20 +53,19 @@ pub reads-back : (pitch : PitchRecord) (bytes more : List ℕ) → writing pitch
     reading (take (writing pitch bytes .0 .written) (writing pitch bytes .1) ++ more) ≡
     record { answer = Done; pitch = pitch; used = writing pitch bytes .0 .written }
 unfolding writing
-reads-back pitch bytes more = go (hasForm pitch) (ltb (length bytes) (length (form pitch))) refl
+reads-back pitch bytes more = go (indexTooLarge pitch) (ltb (length bytes) (length (form pitch))) refl
   where
     outcome : Bool → Bool → Writing × List ℕ
-    outcome fits short =
-        cond fits
+    outcome large short =
+        cond large (refusedWriting IndexTooLarge, bytes)
         (cond short (refusedWriting TooFewBytes, bytes)
         (record { answer = Done; written = length (form pitch) }, form pitch ++ drop (length (form pitch)) bytes))
-        (refusedWriting IndexTooLarge, bytes)
 
-    go : (fits short : Bool) → hasForm pitch ≡ fits → outcome fits short .0 .answer ≡ Done →
-        reading (take (outcome fits short .0 .written) (outcome fits short .1) ++ more) ≡ done pitch (outcome fits short .0 .written)
-    go false short h e = absurd (omega (arith, ap numberOf e))
-    go true true h e = absurd (omega (arith, ap numberOf e))
-    go true false h e =
+    go : (large short : Bool) → indexTooLarge pitch ≡ large → outcome large short .0 .answer ≡ Done →
+        reading (take (outcome large short .0 .written) (outcome large short .1) ++ more) ≡ done pitch (outcome large short .0 .written)
+    go true short h e = absurd (omega (arith, ap numberOf e))
+    go false true h e = absurd (omega (arith, ap numberOf e))
+    go false false h e =
         ap (λ (front : List ℕ). reading (front ++ more)) (take-append-seam (form pitch) (drop (length (form pitch)) bytes)) ∙ form-read pitch more h
 
 -- where a reading is done, writing its record gives the bytes that it used
@@ -81,7 +80,7 @@ one-byte : (a : ℕ) (rest : List ℕ) → a < 128 → Formed (a ∷ rest) (read
 unfolding form bytesOf valueOf
 one-byte a rest h = subst (Formed (a ∷ rest)) (sym (absent-read a rest h)) (go (eqb a 0) refl)
   where
-    go : (b : Bool) → eqb a 0 ≡ b → Formed (a ∷ rest) (cond b (done Absent 1) (refusedReading PaddingSet))
+    go : (b : Bool) → eqb a 0 ≡ b → Formed (a ∷ rest) (ifClear b Absent 1)
     go false e = no-record (a ∷ rest) PaddingSet (omega arith)
     go true e = λ d room l. written-over Absent (a ∷ []) room refl (ap {B = List ℕ} (λ (x : ℕ). x ∷ []) (sym (eqb-true a 0 e))) l
 
@@ -92,10 +91,10 @@ two-bytes a b rest l u v = subst (Formed (a ∷ b ∷ rest)) (sym (present-read 
     first true e = omega (arith, l, u, v, eqb-true (a / 64 % 2) 1 e)
     first false e = omega (arith, l, u, v, eqb-false (a / 64 % 2) 1 e)
 
-    go : (clear : Bool) → eqb (b % 32) 0 ≡ clear → Formed (a ∷ b ∷ rest) (cond clear (done (presentIn a b) 2) (refusedReading PaddingSet))
+    go : (clear : Bool) → eqb (b % 32) 0 ≡ clear → Formed (a ∷ b ∷ rest) (ifClear clear (presentIn a b) 2)
     go false e = no-record (a ∷ b ∷ rest) PaddingSet (omega arith)
     go true e = λ d room space.
-        written-over (presentIn a b) (a ∷ b ∷ []) room (le-leb (indexIn a b) 511 (omega (arith, v)))
+        written-over (presentIn a b) (a ∷ b ∷ []) room (le-ltb 511 (indexIn a b) (omega (arith, v)))
         (form-present (indexIn a b) (eqb (a / 64 % 2) 1)
         ∙ ap₂ {C = List ℕ} (λ (x y : ℕ). x ∷ y ∷ []) (first (eqb (a / 64 % 2) 1) refl) (omega (arith, v, eqb-true (b % 32) 0 e)))
         space

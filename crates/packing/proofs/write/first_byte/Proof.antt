@@ -11,30 +11,26 @@ use Rattle.packing.proofs.ByBytes.{form-present}
 use Rattle.packing.proofs.write.first_byte.Statement.{statement}
 use Rattle.packing.proofs.write.first_byte.Tie as tie
 
-active-bit : (on : Bool) → 64 * boolByte on ≡ cond on 64 0
-active-bit true = omega arith
-active-bit false = omega arith
-
-small : (on : Bool) → boolByte on ≤ 1
-small true = omega arith
-small false = omega arith
+weight : (on : Bool) → (64 * boolByte on ≡ cond on 64 0) × (boolByte on ≤ 1)
+weight true = (omega arith, omega arith)
+weight false = (omega arith, omega arith)
 
 mul-result : tie.Need-mul-result
-mul-result c = omega (arith, small (c .before .args .present .active))
+mul-result c = omega (arith, weight (c .before .args .present .active))
 
 add-result : tie.Need-add-result
-add-result c = omega (arith, small (c .before .args .present .active))
+add-result c = omega (arith, weight (c .before .args .present .active))
 
 add-result-2 : tie.Need-add-result-2
-add-result-2 c = omega (arith, small (c .before .before .args .present .active), c .before .before .pre)
+add-result-2 c = omega (arith, weight (c .before .before .args .present .active), c .before .before .pre)
 
 cast-result : tie.Need-cast-result
-cast-result c = omega (arith, small (c .before .before .args .present .active), c .before .before .pre)
+cast-result c = omega (arith, weight (c .before .before .args .present .active), c .before .before .pre)
 
 returns : tie.Need-returns
 returns c =
     let p = c .before .before .args .present in
-    omega (arith, c .before .before .pre, active-bit (p .active)) ∙ ap (λ (bytes : List ℕ). getD bytes 0 0) (sym (form-present (p .index) (p .active)))
+    omega (arith, c .before .before .pre, weight (p .active)) ∙ ap (λ (bytes : List ℕ). getD bytes 0 0) (sym (form-present (p .index) (p .active)))
 
 pub first-byte-spec : {M : Type 1} → statement M
 first-byte-spec =

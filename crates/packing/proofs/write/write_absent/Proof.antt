@@ -1,11 +1,11 @@
 -- `write_absent`: the form is one byte.
-use Prim.Native.Nat.{ℕ, _≤_}
-use mathlib.Core.Path.{_≡_, refl, sym, ap, _∙_}
+use Prim.Native.Nat.{ℕ}
+use mathlib.Core.Path.{refl, sym, ap, _∙_}
 use mathlib.Core.List.{List, [], _∷_}
-use native.Mathlib.Omega.{arith}
 use borrow.Author.Needs.{needs}
 use borrow.Author.Tests.{lt-ltb}
-use lib.ListN.{length, set, drop}
+use lib.ListN.{length}
+use lib.Seq.{sets-eq}
 use Rattle.rates.specs.declared.answer.Answer.the-variants.{Done}
 use Rattle.lag.specs.declared.pitch.PitchRecord.the-variants.{Absent}
 use Rattle.packing.specs.Bits.{bytesOf, valueOf}
@@ -16,15 +16,11 @@ use Rattle.packing.proofs.ByBytes.{written-over}
 use Rattle.packing.proofs.write.write_absent.Statement.{statement}
 use Rattle.packing.proofs.write.write_absent.Tie as tie
 
-over : (bytes : List ℕ) (a : ℕ) → 1 ≤ length bytes → set bytes 0 a ≡ a ∷ drop 1 bytes
-over [] a h = absurd (omega (arith, h))
-over (x ∷ bytes) a h = refl
-
 returns : tie.Need-returns
 unfolding form bytesOf valueOf
 returns c =
     let bytes : List ℕ = c .before .before .args .bytes .now in
-    ap {B = Writing × List ℕ} (λ (after : List ℕ). (record { answer = Done; written = 1 }, after)) (over bytes 0 (search needs))
+    ap {B = Writing × List ℕ} (λ (after : List ℕ). (record { answer = Done; written = 1 }, after)) (sets-eq (0 ∷ []) bytes 0 (search needs))
     ∙ sym (written-over Absent (0 ∷ []) bytes refl refl (search needs))
 
 returns-2 : tie.Need-returns-2
