@@ -2,10 +2,12 @@
 use Prim.Native.Nat.{ℕ, _+_, _-_, _*_, _/_, _%_}
 use mathlib.Core.Bool.{cond}
 use lib.Dec.{leb, ltb}
+use lib.IntN.{ℤ, subℕ}
 use Rattle.rates.specs.declared.table.Rate.{Rate}
 use Rattle.lag.specs.declared.index.Unscaled.{Unscaled}
 use Rattle.lag.specs.declared.rescale.Lag.{Lag}
 use Rattle.lag.specs.declared.rescale.FoundLag.{FoundLag}
+use Rattle.lag.specs.declared.rescale.LookedUpLag.{LookedUpLag}
 
 -- q, the lag of an index in quarters of a sample at 12.8 kHz
 unfoldable pub quarters : ℕ → ℕ
@@ -29,10 +31,22 @@ rescaled r q = (5 * r * q + 4) / 8
 abbrev pub lagOf : ℕ → ℕ → Lag
 lagOf r q = record { whole = rescaled r q / 4; quarter = rescaled r q % 4 }
 
--- the lag of an index at a rate
+-- the lag of an index at a rate, as a decoder keeps it
 abbrev pub scaledTo : Rate → Unscaled → FoundLag
 scaledTo fs (Unscaled.Quarters q) = FoundLag.Lag (lagOf (fs .r) q)
 scaledTo fs Unscaled.IndexTooLarge = FoundLag.IndexTooLarge
 
 abbrev pub foundLag : Rate → ℕ → FoundLag
 foundLag fs index = scaledTo fs (unscaledOf index)
+
+-- how it was rounded: the signed difference of eight times the rescaled quarters from 5·R·q. (subℕ a b is the integer a - b.)
+unfoldable pub rounding : ℕ → ℕ → ℤ
+rounding r q = subℕ (8 * rescaled r q) (5 * r * q)
+
+-- the lag lookup: the lag of an index at a rate, and how it was rounded
+abbrev pub roundedTo : Rate → Unscaled → LookedUpLag
+roundedTo fs (Unscaled.Quarters q) = LookedUpLag.Lag (record { lag = lagOf (fs .r) q; rounding = rounding (fs .r) q })
+roundedTo fs Unscaled.IndexTooLarge = LookedUpLag.IndexTooLarge
+
+abbrev pub lookedUpLag : Rate → ℕ → LookedUpLag
+lookedUpLag fs index = roundedTo fs (unscaledOf index)

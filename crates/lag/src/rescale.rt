@@ -1,9 +1,9 @@
-// A lag at 12.8 kHz rescaled to a rate, as whole samples and quarters.
+// A lag at 12.8 kHz rescaled to a rate, as whole samples and quarters, and how it was rounded.
 use crate::index::Unscaled;
 use crate::index::unscaled_lag;
 use rates::table::Rate;
 ghost use mathlib.Core.Path.{_≡_};
-ghost use Rattle.lag.specs.Lag.{lagOf, foundLag};
+ghost use Rattle.lag.specs.Lag.{lagOf, foundLag, rounding, lookedUpLag};
 
 pub struct Lag {
     pub whole: usize,
@@ -12,6 +12,17 @@ pub struct Lag {
 
 pub enum FoundLag {
     Lag(Lag),
+    IndexTooLarge,
+}
+
+// A lag, and by how many eighths of a quarter the rounding made it longer: less than 0 where shorter.
+pub struct RoundedLag {
+    pub lag: Lag,
+    pub rounding: i32,
+}
+
+pub enum LookedUpLag {
+    Lag(RoundedLag),
     IndexTooLarge,
 }
 
@@ -26,7 +37,7 @@ pub fn rescale(r: u32, quarters: u16) -> Lag
     }
 }
 
-// The lag of an index at a rate.
+// The lag of an index at a rate, as a decoder keeps it.
 pub fn compute_filter_parameters(fs: Rate, pitch_index: u32) -> FoundLag
     ensures { λ l. ⌜ l ≡ foundLag fs «pitch_index» ⌝ }
 {
@@ -34,4 +45,24 @@ pub fn compute_filter_parameters(fs: Rate, pitch_index: u32) -> FoundLag
         return FoundLag::IndexTooLarge;
     };
     FoundLag::Lag(rescale(fs.r, quarters))
+}
+
+// How such a lag is rounded: 4 are added to 5·R·q, and the shift drops what the mask 7 leaves.
+fn rounding(r: u32, quarters: u16) -> i32
+    ensures { λ d. ⌜ d ≡ rounding r quarters ⌝ }
+{
+    4 - ((5 * r as usize * quarters as usize + 4) & 7) as i32
+}
+
+// The lag lookup: the lag of an index at a rate, and how it was rounded.
+pub fn look_up_lag(fs: Rate, pitch_index: u32) -> LookedUpLag
+    ensures { λ l. ⌜ l ≡ lookedUpLag fs «pitch_index» ⌝ }
+{
+    let Unscaled::Quarters(quarters) = unscaled_lag(pitch_index) else {
+        return LookedUpLag::IndexTooLarge;
+    };
+    LookedUpLag::Lag(RoundedLag {
+        lag: rescale(fs.r, quarters),
+        rounding: rounding(fs.r, quarters),
+    })
 }

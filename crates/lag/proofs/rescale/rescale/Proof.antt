@@ -2,17 +2,17 @@
 -- leaves the remainder by 4.
 use Prim.Native.Nat.{ℕ, _*_, _/_, _≤_}
 use mathlib.Core.Path.{ap}
-use native.Mathlib.Nat.{mul-le-mul}
 use native.Mathlib.Omega.{arith}
 use lib.Bits.{and-mask}
 use Rattle.lag.specs.Lag.{rescaled}
+use Rattle.lag.proofs.Rounding.{product-small}
 use borrow.Author.Needs.{needs}
 use Rattle.lag.proofs.rescale.rescale.Statement.{statement}
 use Rattle.lag.proofs.rescale.rescale.Tie as tie
 
 -- the product is far below 2 ^ 64
 small : (c : tie.Start) → 5 * c .args .r * c .args .quarters ≤ 5 * 4294967295 * 65535
-small c = mul-le-mul {n₂ = 5 * 4294967295} {m₂ = 65535} (omega arith) (omega arith)
+small c = product-small (c .args .r) (c .args .quarters) (omega arith) (omega arith)
 
 mul-p-up : tie.Need-mul-p-up
 mul-p-up c = search needs
