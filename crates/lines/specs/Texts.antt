@@ -4,13 +4,17 @@ use mathlib.Core.Path.{_≡_}
 use mathlib.Core.Bool.{cond}
 use mathlib.Core.List.{List, [], _∷_, _++_}
 use lib.Dec.{leb}
+use lib.IntN.{ℤ}
 use lib.ListN.{length}
 use lib.Seq.{sets}
-use Rattle.lines.specs.Decimal.{decimal}
+use Rattle.lines.specs.Decimal.{decimal, signedDecimal}
 
--- a number's cell, and one that holds a dash, each with the byte that ends it
+-- the cell of a number, of an integer, and one that holds a dash, each with the byte that ends it
 abbrev pub cell : ℕ → ℕ → List ℕ
 cell n end = decimal n ++ (end ∷ [])
+
+abbrev pub signedCell : ℤ → ℕ → List ℕ
+signedCell z end = signedDecimal z ++ (end ∷ [])
 
 abbrev pub dashCell : ℕ → List ℕ
 dashCell end = 45 ∷ end ∷ []

@@ -3,3 +3,4 @@ pub mod cell;
 pub mod decimal;
 pub mod field;
 pub mod held;
+pub mod signed;

@@ -1,0 +1,35 @@
+// The cell of a number that may be below 0.
+use crate::cell::put_cell;
+ghost use mathlib.Core.Path.{_≡_};
+ghost use Prim.Native.Nat.{_+_, _≤_};
+ghost use lib.IntN.{natAbs};
+ghost use Rattle.lines.specs.Texts.{Put, signedCell};
+
+// A number without its sign.
+fn unsigned(n: i32) -> u64
+    ensures { λ r. ⌜ r ≡ natAbs n ⌝ }
+{
+    if n < 0 {
+        return (-1 - n) as u64 + 1;
+    }
+    n as u64
+}
+
+// A number that may be below 0, and the byte that ends its cell. Where too little space is left it
+// writes nothing, and answers `at`.
+pub fn put_signed(out: &mut [u8], at: usize, n: i32, end: u8) -> usize
+    ensures { λ r. ⌜ Put 22 (now (out .entry)) at (signedCell n end) (now (out .exit)) r ⌝ }
+    ensures { λ r. ⌜ r ≤ at + 22 ⌝ }
+{
+    if out.len() < 22 {
+        return at;
+    }
+    if at > out.len() - 22 {
+        return at;
+    }
+    if n < 0 {
+        out[at] = b'-';
+        return put_cell(out, at + 1, unsigned(n), end);
+    }
+    put_cell(out, at, unsigned(n), end)
+}
