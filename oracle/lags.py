@@ -2,7 +2,8 @@
 """Writes the listing that a file of rates and pitch indices must give.
 
 An independent reading for the tests' expected files: the lag goes by the floating-point formula of
-the Rust decoder (compute_filter_parameters), not by our whole numbers. Use: lags.py <INPUT >OUTPUT
+the Rust decoder (compute_filter_parameters), not by our whole numbers, and its rounding is eight
+times that lag in quarters less 5·R·q. Use: lags.py <INPUT >OUTPUT
 """
 import math
 import re
@@ -20,23 +21,24 @@ def lag(rate, index):
     else:
         whole = index // 4 + 32
         fraction = float(index + 128 - 4 * whole)
-    scaled = (whole + fraction / 4.0) * (8000.0 * math.ceil(rate / 8000.0) / 12800.0)
+    multiple = math.ceil(rate / 8000.0)
+    scaled = (whole + fraction / 4.0) * (8000.0 * multiple / 12800.0)
     up = int(scaled * 4.0 + 0.5)
-    return up // 4, up % 4
+    return up // 4, up % 4, 8 * up - 5 * multiple * (4 * whole + int(fraction))
 
 
 def row(line):
     field = rb"(-|[0-9]{1,5})"
     match = re.fullmatch(field + rb"\t" + field, line)
     if not match:
-        return "-", "-", 10
+        return "-", "-", "-", 10
     rate = 48000 if match[1] == b"-" else int(match[1])
     if rate not in RATES:
-        return "-", "-", 1
+        return "-", "-", "-", 1
     if match[2] == b"-":
-        return "-", "-", 0
+        return "-", "-", "-", 0
     if int(match[2]) > 511:
-        return "-", "-", 7
+        return "-", "-", "-", 7
     return (*lag(rate, int(match[2])), 0)
 
 
@@ -44,7 +46,7 @@ def main():
     lines = sys.stdin.buffer.read().split(b"\n")
     if lines[-1] == b"":
         lines.pop()
-    print("line\twhole\tquarter\tanswer")
+    print("line\twhole\tquarter\trounding\tanswer")
     for number, line in enumerate(lines, 1):
         print(number, *row(line), sep="\t")
 

@@ -19,11 +19,11 @@ pub one-piece : (input : List ℕ) → header ++ text first input ++ lastText (a
 one-piece input = whole.one-piece lagRules decided input
 
 -- a call that is offered a byte and has space for a row takes at least one byte
-pub progress : (m : Listing) (offered : List ℕ) (free : ℕ) → 0 < length offered → 84 ≤ free → 0 < taken m offered free
+pub progress : (m : Listing) (offered : List ℕ) (free : ℕ) → 0 < length offered → 106 ≤ free → 0 < taken m offered free
 progress m offered free l r = cuts.progress lagRules (m .line) (m .held) offered free l r
 
 -- Calls are fed what is left of the input, each offered any number of its bytes and any buffer. If at least as many of them as the
--- input has bytes are offered one and have 84 bytes of space, all is taken, and what was written is the listing of the whole input.
+-- input has bytes are offered one and have 106 bytes of space, all is taken, and what was written is the listing of the whole input.
 pub any-cuts : (input : List ℕ) (cs : List Call) → length input ≤ serving lagRules cs →
     wholeText lagRules (calledAll lagRules (begun lagRules input) cs) ≡ listing input
 any-cuts input cs l = whole.any-cuts lagRules decided input cs l

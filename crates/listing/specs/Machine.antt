@@ -15,7 +15,7 @@ after m bytes = record { line = machine.stateAfter lagRules (m .line) (m .held) 
 abbrev pub text : Listing → List ℕ → List ℕ
 text m bytes = machine.text lagRules (m .line) (m .held) bytes
 
--- how many bytes a call takes: all, or those before the first at which fewer than 84 bytes are free to write into, which any row fits
+-- how many bytes a call takes: all, or those before the first at which fewer than 106 bytes are free to write into, which any row fits
 abbrev pub taken : Listing → List ℕ → ℕ → ℕ
 taken m bytes free = machine.taken lagRules (m .line) (m .held) bytes free
 

@@ -9,10 +9,10 @@ use Rattle.rates.specs.Table.{rowOf}
 use Rattle.rates.specs.declared.answer.Answer.{Answer}
 use Rattle.rates.specs.declared.table.Rate.{Rate}
 use Rattle.rates.specs.declared.table.FoundRate.{FoundRate}
-use Rattle.lag.specs.Lag.{foundLag}
-use Rattle.lag.specs.declared.rescale.FoundLag.{FoundLag}
+use Rattle.lag.specs.Lag.{lookedUpLag}
+use Rattle.lag.specs.declared.rescale.LookedUpLag.{LookedUpLag}
 use Rattle.lines.specs.Fields.{tabAt, fieldOf}
-use Rattle.lines.specs.Texts.{cell, dashCell}
+use Rattle.lines.specs.Texts.{cell, signedCell, dashCell}
 use Rattle.lines.specs.declared.field.Field.{Field}
 use Rattle.listing.specs.declared.row.Row.{Row}
 use Rattle.listing.specs.declared.row.Shown.{Shown}
@@ -21,12 +21,12 @@ use Rattle.listing.specs.declared.row.Shown.{Shown}
 abbrev pub refusedRow : Answer → Row
 refusedRow answer = record { answer = answer; lag = Shown.Dashes }
 
-abbrev pub lagFound : FoundLag → Row
-lagFound (FoundLag.Lag l) = record { answer = Answer.Done; lag = Shown.Lag l }
-lagFound FoundLag.IndexTooLarge = refusedRow Answer.IndexTooLarge
+abbrev pub lagFound : LookedUpLag → Row
+lagFound (LookedUpLag.Lag l) = record { answer = Answer.Done; lag = Shown.Lag l }
+lagFound LookedUpLag.IndexTooLarge = refusedRow Answer.IndexTooLarge
 
 abbrev pub lagRow : Rate → ℕ → Row
-lagRow fs index = lagFound (foundLag fs index)
+lagRow fs index = lagFound (lookedUpLag fs index)
 
 -- a dash for the index is an absent pitch, and has no lag
 abbrev pub absentRow : FoundRate → Row
@@ -56,11 +56,11 @@ answerTo line =
     (lookedUp (fieldOf 5 (take (tabAt line) line)) (fieldOf 5 (drop (tabAt line + 1) line)))
     (refusedRow Answer.MalformedLine)
 
--- whole and quarter
+-- whole, quarter, rounding
 abbrev pub shownText : Shown → List ℕ
-shownText Shown.Dashes = dashCell 9 ++ dashCell 9
-shownText (Shown.Lag l) = cell (l .whole) 9 ++ cell (l .quarter) 9
+shownText Shown.Dashes = dashCell 9 ++ dashCell 9 ++ dashCell 9
+shownText (Shown.Lag l) = cell (l .lag .whole) 9 ++ cell (l .lag .quarter) 9 ++ signedCell (l .rounding) 9
 
--- line, whole, quarter, answer
+-- line, whole, quarter, rounding, answer
 abbrev pub rowText : ℕ → Row → List ℕ
 rowText line row = cell line 9 ++ shownText (row .lag) ++ cell (numberOf (row .answer)) 10

@@ -4,14 +4,15 @@ use mathlib.Core.List.{List, [], _∷_}
 use Rattle.lines.specs.Listings.{Rules, nextNumber, listingOf}
 use Rattle.listing.specs.Rows.{answerTo, rowText}
 
--- line, whole, quarter, answer
+-- line, whole, quarter, rounding, answer
 abbrev pub header : List ℕ
 header =
     108 ∷ 105 ∷ 110 ∷ 101 ∷ 9 ∷ 119 ∷ 104 ∷ 111 ∷ 108 ∷ 101 ∷ 9 ∷
     113 ∷ 117 ∷ 97 ∷ 114 ∷ 116 ∷ 101 ∷ 114 ∷ 9 ∷
+    114 ∷ 111 ∷ 117 ∷ 110 ∷ 100 ∷ 105 ∷ 110 ∷ 103 ∷ 9 ∷
     97 ∷ 110 ∷ 115 ∷ 119 ∷ 101 ∷ 114 ∷ 10 ∷ []
 
--- between two lines only the number of the next one is known; a row has four cells of at most 21 bytes
+-- between two lines only the number of the next one is known; a row has four cells of at most 21 bytes and one, of the rounding, of at most 22
 abbrev pub lagRules : Rules
 lagRules =
     record {
@@ -20,7 +21,7 @@ lagRules =
       first = 1;
       moved = λ number line. nextNumber number;
       row = λ number line. rowText number (answerTo line);
-      space = 84;
+      space = 106;
     }
 
 -- the header, and a row for each line

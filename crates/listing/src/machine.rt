@@ -30,14 +30,14 @@ pub struct Fed {
 }
 
 // The space that any row fits.
-const ROW: usize = 84;
+const ROW: usize = 106;
 
 // A listing before its first line, with the header written.
 pub fn start(out: &mut [u8; 128]) -> Fed
-    ensures { λ r. ⌜ r ≡ record { listing = first; used = 0; written = 26 } ⌝ }
+    ensures { λ r. ⌜ r ≡ record { listing = first; used = 0; written = 35 } ⌝ }
     ensures { λ _. ⌜ now (out .exit) ≡ sets (now (out .entry)) 0 header ⌝ }
 {
-    let written = put_text(out, 0, b"line\twhole\tquarter\tanswer\n");
+    let written = put_text(out, 0, b"line\twhole\tquarter\trounding\tanswer\n");
     Fed {
         listing: Listing {
             line: 1,
@@ -53,9 +53,9 @@ pub fn start(out: &mut [u8; 128]) -> Fed
 
 // The row of the line that is held.
 fn put_held(out: &mut [u8], at: usize, line: u64, held: Held) -> usize
-    requires { ⌜ at + 84 ≤ length (now out) ⌝ }
+    requires { ⌜ at + 106 ≤ length (now out) ⌝ }
     ensures { λ r. ⌜ Written (now (out .entry)) at (rowText line (answerTo (heldLine held))) (now (out .exit)) r ⌝ }
-    ensures { λ r. ⌜ r ≤ at + 84 ⌝ }
+    ensures { λ r. ⌜ r ≤ at + 106 ⌝ }
 {
     let n = count(held);
     let bytes = held.bytes;
@@ -98,7 +98,7 @@ impl Listing {
     // Writes the row of a last line that no newline ended, and answers its length.
     pub fn finish(self, out: &mut [u8; 128]) -> usize
         ensures { λ r. ⌜ Written (now (out .entry)) 0 (lastText self) (now (out .exit)) r ⌝ }
-        ensures { λ r. ⌜ r ≤ 84 ⌝ }
+        ensures { λ r. ⌜ r ≤ 106 ⌝ }
     {
         let held = self.held;
         if held.len == 0 {

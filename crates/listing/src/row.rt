@@ -1,12 +1,13 @@
 // One line of the listing: what a line of input asks, and the row that answers it.
-use lag::rescale::FoundLag;
-use lag::rescale::Lag;
-use lag::rescale::compute_filter_parameters;
+use lag::rescale::LookedUpLag;
+use lag::rescale::RoundedLag;
+use lag::rescale::look_up_lag;
 use lines::cell::put_cell;
-use lines::cell::put_dash;
+use lines::cell::put_text;
 use lines::field::Field;
 use lines::field::first_tab;
 use lines::field::read_field;
+use lines::signed::put_signed;
 use rates::answer::Answer;
 use rates::answer::number;
 use rates::table::FoundRate;
@@ -19,10 +20,10 @@ ghost use Rattle.lines.specs.Texts.{Written};
 ghost use Rattle.listing.specs.Rows.{refusedRow, lagRow, atRate, lookedUp, answerTo};
 ghost use Rattle.listing.specs.Rows.{shownText, rowText};
 
-// The lag that a row shows: dashes where there is none.
+// The lag that a row shows, and how it was rounded: dashes where there is none.
 pub enum Shown {
     Dashes,
-    Lag(Lag),
+    Lag(RoundedLag),
 }
 
 pub struct Row {
@@ -43,12 +44,12 @@ fn refused_row(answer: Answer) -> Row
 fn lag_row(fs: Rate, pitch_index: u32) -> Row
     ensures { λ r. ⌜ r ≡ lagRow fs «pitch_index» ⌝ }
 {
-    match compute_filter_parameters(fs, pitch_index) {
-        FoundLag::Lag(lag) => Row {
+    match look_up_lag(fs, pitch_index) {
+        LookedUpLag::Lag(lag) => Row {
             answer: Answer::Done,
             lag: Shown::Lag(lag),
         },
-        FoundLag::IndexTooLarge => refused_row(Answer::IndexTooLarge),
+        LookedUpLag::IndexTooLarge => refused_row(Answer::IndexTooLarge),
     }
 }
 
@@ -96,29 +97,28 @@ pub fn answer_line(line: &[u8]) -> Row
     look_up(rate, index)
 }
 
-// The two cells of a lag.
-fn put_shown(out: &mut [u8], at: usize, lag: Shown) -> usize
-    requires { ⌜ at + 42 ≤ length (now out) ⌝ }
-    ensures { λ r. ⌜ Written (now (out .entry)) at (shownText lag) (now (out .exit)) r ⌝ }
-    ensures { λ r. ⌜ r ≤ at + 42 ⌝ }
+// The three cells of a lag.
+fn put_shown(out: &mut [u8], at: usize, shown: Shown) -> usize
+    requires { ⌜ at + 64 ≤ length (now out) ⌝ }
+    ensures { λ r. ⌜ Written (now (out .entry)) at (shownText shown) (now (out .exit)) r ⌝ }
+    ensures { λ r. ⌜ r ≤ at + 64 ⌝ }
 {
-    match lag {
-        Shown::Dashes => {
-            let next = put_dash(out, at, b'\t');
-            put_dash(out, next, b'\t')
-        }
-        Shown::Lag(l) => {
-            let next = put_cell(out, at, l.whole as u64, b'\t');
-            put_cell(out, next, l.quarter as u64, b'\t')
+    match shown {
+        Shown::Dashes => put_text(out, at, b"-\t-\t-\t"),
+        Shown::Lag(rounded) => {
+            let lag = rounded.lag;
+            let after_whole = put_cell(out, at, lag.whole as u64, b'\t');
+            let after_quarter = put_cell(out, after_whole, lag.quarter as u64, b'\t');
+            put_signed(out, after_quarter, rounded.rounding, b'\t')
         }
     }
 }
 
 // A row's text, with the number of its line first.
 pub(crate) fn put_row(out: &mut [u8], at: usize, line: u64, row: Row) -> usize
-    requires { ⌜ at + 84 ≤ length (now out) ⌝ }
+    requires { ⌜ at + 106 ≤ length (now out) ⌝ }
     ensures { λ r. ⌜ Written (now (out .entry)) at (rowText line row) (now (out .exit)) r ⌝ }
-    ensures { λ r. ⌜ r ≤ at + 84 ⌝ }
+    ensures { λ r. ⌜ r ≤ at + 106 ⌝ }
 {
     let lag = row.lag;
     let answer = row.answer;

@@ -21,7 +21,7 @@ pub fn begin() -> Pumped
     let mut text = [0u8; 128];
     let begun = listing::machine::start(&mut text);
     let listing = begun.listing;
-    let is_written = write_out(&text[..26]);
+    let is_written = write_out(&text[..35]);
     Pumped {
         listing,
         failed: !is_written,

@@ -62,9 +62,9 @@ fn list_file(path: &[u8]) {
     let mut input = io::buffer();
     let n = io::read_full(fd, &mut input);
     libc::close(fd);
-    let mut least = [0u8; 84];
+    let mut least = [0u8; 106];
     list_cut(&input[..n], 1, &mut least);
-    let mut little = [0u8; 100];
+    let mut little = [0u8; 128];
     list_cut(&input[..n], 7, &mut little);
     let mut much = io::buffer();
     list_cut(&input[..n], 4096, &mut much);

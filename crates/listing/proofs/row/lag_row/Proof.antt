@@ -7,10 +7,10 @@ enum-told : tie.Need-enum-told
 enum-told c = search needs
 
 returns : tie.Need-returns
-returns c = rw (← c .before .before .before .compute-filter-parameters .ensures, c .before .lag .given .1)
+returns c = rw (← c .before .before .before .look-up-lag .ensures, c .before .lag .given .1)
 
 returns-2 : tie.Need-returns-2
-returns-2 c = rw (c .refused-row .ensures, ← c .before .before .before .compute-filter-parameters .ensures, c .before .enum-told .given .1)
+returns-2 c = rw (c .refused-row .ensures, ← c .before .before .before .look-up-lag .ensures, c .before .enum-told .given .1)
 
 pub lag-row-spec : {M : Type 1} → statement M
 lag-row-spec =
