@@ -3,14 +3,15 @@
 
 An independent reading of the rules for the tests' expected files: the lag goes by the floating-point
 formula of the Rust decoder (compute_filter_parameters) at 48000 Hz, not by our whole numbers, and
-no samples are filtered. Use: replay.py <INPUT >OUTPUT
+no samples are filtered; a lag's rounding is eight times it in quarters less 5·6·q.
+Use: replay.py <INPUT >OUTPUT
 """
 import re
 import sys
 
 NUMBER = rb"([0-9]{1,9})"
 LINE = re.compile(NUMBER + rb"\t(?:(lost)|(?:-\t0|" + NUMBER + rb"\t([01]))\t" + NUMBER + rb")")
-DASHES = "-\t-\t-\t-\t-\t"
+DASHES = "-\t-\t-\t-\t-\t-\t"
 
 
 def lag(index):
@@ -24,7 +25,7 @@ def lag(index):
         fraction = float(index + 128 - 4 * whole)
     scaled = (whole + fraction / 4.0) * (48000.0 / 12800.0)
     up = int(scaled * 4.0 + 0.5)
-    return up // 4, up % 4
+    return up // 4, up % 4, 8 * up - 30 * (4 * whole + int(fraction))
 
 
 def gain_row(nbits):
@@ -68,10 +69,10 @@ def frame(decoder, index, active, nbits):
         return DASHES + "7"
     if active != b"1":
         case = decoder.accept(None)
-        return f"{case}\t-\t-\t-\t{decoder.settled}\t0"
-    whole, quarter = lag(int(index))
+        return f"{case}\t-\t-\t-\t{decoder.settled}\t-\t0"
+    whole, quarter, rounding = lag(int(index))
     case = decoder.accept((whole, quarter))
-    return f"{case}\t{whole}\t{quarter}\t{gain_row(int(nbits))}\t{decoder.settled}\t0"
+    return f"{case}\t{whole}\t{quarter}\t{gain_row(int(nbits))}\t{decoder.settled}\t{rounding}\t0"
 
 
 def replay(lines):
@@ -95,7 +96,7 @@ def replay(lines):
 
 
 def main():
-    print("line\tcase\twhole\tquarter\trow\tsettled\tanswer")
+    print("line\tcase\twhole\tquarter\trow\tsettled\trounding\tanswer")
     for number, columns in enumerate(replay(sys.stdin.buffer), 1):
         print(f"{number}\t{columns}")
 

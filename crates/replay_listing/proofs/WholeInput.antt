@@ -13,5 +13,5 @@ pub after-append : (m : Listing) (a b : List ℕ) → after m (a ++ b) ≡ after
 after-append m a b = rw (cuts.state-append bareRules (m .replay) (m .held) a b, cuts.held-append (m .held) a b)
 
 -- a call that is offered a byte and has space for a row takes at least one byte
-pub progress : (m : Listing) (offered : List ℕ) (free : ℕ) → 0 < length offered → 147 ≤ free → 0 < taken m offered free
+pub progress : (m : Listing) (offered : List ℕ) (free : ℕ) → 0 < length offered → 169 ≤ free → 0 < taken m offered free
 progress m offered free l r = cuts.progress bareRules (m .replay) (m .held) offered free l r

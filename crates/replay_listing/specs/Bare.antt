@@ -21,7 +21,7 @@ replayedAs line s = record { replay = record { line = nextNumber line; last = s 
 unfoldable pub replayedLine : Replay → List ℕ → Replayed
 replayedLine p line = replayedAs (p .line) (stepped (p .last) (p .registers) line)
 
--- a row has seven cells of at most 21 bytes
+-- a row has seven cells of at most 21 bytes and one, of the rounding, of at most 22
 abbrev pub bareRules : Rules
 bareRules =
     record {
@@ -30,5 +30,5 @@ bareRules =
       first = first;
       moved = λ p line. replayedLine p line .replay;
       row = λ p line. rowText (p .line) (replayedLine p line .row);
-      space = 147;
+      space = 169;
     }

@@ -15,7 +15,7 @@ after m bytes = record { replay = machine.stateAfter bareRules (m .replay) (m .h
 abbrev pub text : Listing → List ℕ → List ℕ
 text m bytes = machine.text bareRules (m .replay) (m .held) bytes
 
--- how many bytes a call takes: all, or those before the first at which fewer than 147 bytes are free to write into, which any row fits
+-- how many bytes a call takes: all, or those before the first at which fewer than 169 bytes are free to write into, which any row fits
 abbrev pub taken : Listing → List ℕ → ℕ → ℕ
 taken m bytes free = machine.taken bareRules (m .replay) (m .held) bytes free
 

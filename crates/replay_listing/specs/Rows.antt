@@ -7,12 +7,13 @@ use Rattle.lag.specs.declared.gain.Gain.{Gain}
 use Rattle.lag.specs.declared.rescale.Lag.{Lag}
 use Rattle.filter.specs.declared.transition.Transition.{Transition}
 use Rattle.filter.specs.declared.transition.Transition.the-variants.{Inactive, Activated, Deactivated, ActiveNoPitchChange, ActivePitchChanged}
-use Rattle.lines.specs.Texts.{cell, dashCell}
+use Rattle.lines.specs.Texts.{cell, signedCell, dashCell}
 use Rattle.replaying.specs.declared.frame.Columns.{Columns}
 use Rattle.replaying.specs.declared.frame.Shown.{Shown}
 use Rattle.replaying.specs.declared.frame.Row.{Row}
+use Rattle.replaying.specs.declared.rounding.Rounding.{Rounding}
 
--- line, case, whole, quarter, row, settled, answer
+-- line, case, whole, quarter, row, settled, rounding, answer
 abbrev pub header : List ℕ
 header =
     108 ∷ 105 ∷ 110 ∷ 101 ∷ 9 ∷
@@ -21,6 +22,7 @@ header =
     113 ∷ 117 ∷ 97 ∷ 114 ∷ 116 ∷ 101 ∷ 114 ∷ 9 ∷
     114 ∷ 111 ∷ 119 ∷ 9 ∷
     115 ∷ 101 ∷ 116 ∷ 116 ∷ 108 ∷ 101 ∷ 100 ∷ 9 ∷
+    114 ∷ 111 ∷ 117 ∷ 110 ∷ 100 ∷ 105 ∷ 110 ∷ 103 ∷ 9 ∷
     97 ∷ 110 ∷ 115 ∷ 119 ∷ 101 ∷ 114 ∷ 10 ∷ []
 
 -- the cases as docs/SCOPE.md numbers them
@@ -47,13 +49,19 @@ gainText false gain = dashCell 9
 gainText true Gain.Off = dashCell 9
 gainText true (Gain.On gain row) = cell row 9
 
--- case, whole, quarter, row, settled
+-- how the lag was rounded; a dash where no lag is shown
+abbrev pub roundingText : Rounding → List ℕ
+roundingText Rounding.Dash = dashCell 9
+roundingText (Rounding.Difference d) = signedCell d 9
+
+-- case, whole, quarter, row, settled, rounding
 abbrev pub columnsText : Columns → List ℕ
 columnsText c =
-    cell (caseNumber (c .transition)) 9 ++ lagText (c .active) (c .lag) ++ gainText (c .active) (c .gain) ++ cell (flagNumber (c .settled)) 9
+    cell (caseNumber (c .transition)) 9 ++ lagText (c .active) (c .lag) ++ gainText (c .active) (c .gain) ++ cell (flagNumber (c .settled)) 9 ++
+    roundingText (c .rounding)
 
 abbrev pub dashesText : List ℕ
-dashesText = dashCell 9 ++ dashCell 9 ++ dashCell 9 ++ dashCell 9 ++ dashCell 9
+dashesText = dashCell 9 ++ dashCell 9 ++ dashCell 9 ++ dashCell 9 ++ dashCell 9 ++ dashCell 9
 
 abbrev pub shownText : Shown → List ℕ
 shownText Shown.Dashes = dashesText

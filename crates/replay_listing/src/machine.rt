@@ -47,7 +47,7 @@ pub struct Fed {
 }
 
 // The space that any row fits.
-const ROW: usize = 147;
+const ROW: usize = 169;
 
 // A listing of 48000 Hz and 10 ms before its first line.
 pub fn begin() -> Listing
@@ -69,12 +69,12 @@ pub fn begin() -> Listing
 // Writes the header, and answers its length.
 pub fn put_header(out: &mut [u8; 256]) -> usize
     ensures { λ r. ⌜ Written (now (out .entry)) 0 header (now (out .exit)) r ⌝ }
-    ensures { λ r. ⌜ r ≡ 43 ⌝ }
+    ensures { λ r. ⌜ r ≡ 52 ⌝ }
 {
     put_text(
         out,
         0,
-        b"line\tcase\twhole\tquarter\trow\tsettled\tanswer\n",
+        b"line\tcase\twhole\tquarter\trow\tsettled\trounding\tanswer\n",
     )
 }
 
@@ -138,7 +138,7 @@ impl Listing {
     // Writes the row of a last line that no newline ended, and answers its length.
     pub fn finish(self, out: &mut [u8; 256]) -> usize
         ensures { λ r. ⌜ Written (now (out .entry)) 0 (lastText self) (now (out .exit)) r ⌝ }
-        ensures { λ r. ⌜ r ≤ 147 ⌝ }
+        ensures { λ r. ⌜ r ≤ 169 ⌝ }
     {
         let held = self.held;
         let replay = self.replay;

@@ -5,15 +5,17 @@ use lag::rescale::Lag;
 use lines::cell::put_cell;
 use lines::cell::put_dash;
 use lines::cell::put_text;
+use lines::signed::put_signed;
 use rates::answer::number;
 use replaying::frame::Columns;
 use replaying::frame::Row;
 use replaying::frame::Shown;
+use replaying::rounding::Rounding;
 ghost use mathlib.Core.Path.{_≡_};
 ghost use Prim.Native.Nat.{_+_, _≤_};
 ghost use lib.ListN.{length};
 ghost use Rattle.lines.specs.Texts.{Written};
-ghost use Rattle.replay_listing.specs.Rows.{caseNumber, flagNumber, lagText, gainText, columnsText, dashesText, shownText, rowText};
+ghost use Rattle.replay_listing.specs.Rows.{caseNumber, flagNumber, lagText, gainText, roundingText, columnsText, dashesText, shownText, rowText};
 
 // The number of a case.
 fn case_number(transition: Transition) -> u64
@@ -63,35 +65,49 @@ fn put_gain(out: &mut [u8], at: usize, active: bool, gain: Gain) -> usize
     }
 }
 
-// The five cells of an accepted frame.
+// The lag's rounding, or a dash.
+fn put_rounding(out: &mut [u8], at: usize, rounding: Rounding) -> usize
+    requires { ⌜ at + 22 ≤ length (now out) ⌝ }
+    ensures { λ r. ⌜ Written (now (out .entry)) at (roundingText rounding) (now (out .exit)) r ⌝ }
+    ensures { λ r. ⌜ r ≤ at + 22 ⌝ }
+{
+    match rounding {
+        Rounding::Dash => put_dash(out, at, b'\t'),
+        Rounding::Difference(difference) => put_signed(out, at, difference, b'\t'),
+    }
+}
+
+// The six cells of an accepted frame.
 fn put_columns(out: &mut [u8], at: usize, columns: Columns) -> usize
-    requires { ⌜ at + 105 ≤ length (now out) ⌝ }
+    requires { ⌜ at + 127 ≤ length (now out) ⌝ }
     ensures { λ r. ⌜ Written (now (out .entry)) at (columnsText columns) (now (out .exit)) r ⌝ }
-    ensures { λ r. ⌜ r ≤ at + 105 ⌝ }
+    ensures { λ r. ⌜ r ≤ at + 127 ⌝ }
 {
     let transition = columns.transition;
     let lag = columns.lag;
     let gain = columns.gain;
+    let rounding = columns.rounding;
     let after_case = put_cell(out, at, case_number(transition), b'\t');
     let after_lag = put_lag(out, after_case, columns.active, lag);
     let after_gain = put_gain(out, after_lag, columns.active, gain);
-    put_cell(out, after_gain, flag_number(columns.settled), b'\t')
+    let after_settled = put_cell(out, after_gain, flag_number(columns.settled), b'\t');
+    put_rounding(out, after_settled, rounding)
 }
 
-// Five dashes.
+// Six dashes.
 fn put_dashes(out: &mut [u8], at: usize) -> usize
-    requires { ⌜ at + 105 ≤ length (now out) ⌝ }
+    requires { ⌜ at + 127 ≤ length (now out) ⌝ }
     ensures { λ r. ⌜ Written (now (out .entry)) at dashesText (now (out .exit)) r ⌝ }
-    ensures { λ r. ⌜ r ≤ at + 105 ⌝ }
+    ensures { λ r. ⌜ r ≤ at + 127 ⌝ }
 {
-    put_text(out, at, b"-\t-\t-\t-\t-\t")
+    put_text(out, at, b"-\t-\t-\t-\t-\t-\t")
 }
 
-// The five cells between a row's number and its answer.
+// The six cells between a row's number and its answer.
 fn put_shown(out: &mut [u8], at: usize, shown: Shown) -> usize
-    requires { ⌜ at + 105 ≤ length (now out) ⌝ }
+    requires { ⌜ at + 127 ≤ length (now out) ⌝ }
     ensures { λ r. ⌜ Written (now (out .entry)) at (shownText shown) (now (out .exit)) r ⌝ }
-    ensures { λ r. ⌜ r ≤ at + 105 ⌝ }
+    ensures { λ r. ⌜ r ≤ at + 127 ⌝ }
 {
     match shown {
         Shown::Dashes => put_dashes(out, at),
@@ -101,9 +117,9 @@ fn put_shown(out: &mut [u8], at: usize, shown: Shown) -> usize
 
 // A row, with the number of its line first.
 pub(crate) fn put_row(out: &mut [u8], at: usize, line: u64, row: Row) -> usize
-    requires { ⌜ at + 147 ≤ length (now out) ⌝ }
+    requires { ⌜ at + 169 ≤ length (now out) ⌝ }
     ensures { λ r. ⌜ Written (now (out .entry)) at (rowText line row) (now (out .exit)) r ⌝ }
-    ensures { λ r. ⌜ r ≤ at + 147 ⌝ }
+    ensures { λ r. ⌜ r ≤ at + 169 ⌝ }
 {
     let shown = row.shown;
     let answer = row.answer;

@@ -86,7 +86,7 @@ fn replay_cut(path: &[u8], cut: usize, out: &mut [u8]) {
 }
 
 fn replay_file(path: &[u8]) {
-    let mut least = [0u8; 147];
+    let mut least = [0u8; 169];
     replay_cut(path, 1, &mut least);
     let mut little = [0u8; 200];
     replay_cut(path, 7, &mut little);

@@ -4,3 +4,4 @@ pub mod OneLine
 pub mod WholeInput
 pub mod Refusals
 pub mod SettledColumn
+pub mod RoundingColumn

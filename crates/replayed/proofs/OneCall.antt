@@ -119,9 +119,11 @@ module _ (set : Set) (lendable : Lendable set) (d : Decoder) (fit : FitState con
 
   -- what a frame leads to, by its verdict
   record Same (side : SideInfo) (v : Verdict) : Type 0 where
-    answer : framedWith d (set .numerators) (set .denominators) (replicate 480 0·0) v .0 .answer ≡ playedBy (bare (d .registers)) v .row .answer
-    shown : shownBy v (framedWith d (set .numerators) (set .denominators) (replicate 480 0·0) v .0 .settled) ≡ playedBy (bare (d .registers)) v .row .shown
-    registers : bare (framedWith d (set .numerators) (set .denominators) (replicate 480 0·0) v .0 .decoder .registers) ≡ playedBy (bare (d .registers)) v .registers
+    answer : framedWith d (set .numerators) (set .denominators) (replicate 480 0·0) v .0 .answer ≡ playedBy (bare (d .registers)) (side .pitch) v .row .answer
+    shown :
+        shownBy v (side .pitch) (framedWith d (set .numerators) (set .denominators) (replicate 480 0·0) v .0 .settled) ≡
+        playedBy (bare (d .registers)) (side .pitch) v .row .shown
+    registers : bare (framedWith d (set .numerators) (set .denominators) (replicate 480 0·0) v .0 .decoder .registers) ≡ playedBy (bare (d .registers)) (side .pitch) v .registers
 
   -- the same whatever the verdict is
   same-outcome : (side : SideInfo) (o : OutcomeOf config (given set side)) →

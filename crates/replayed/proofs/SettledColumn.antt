@@ -69,7 +69,7 @@ module _ (set : Set) (lendable : Lendable set) where
   shown-settled d (Content.Frame side) c e =
       go (judged (d .registers) (fitDecoder d) (set .numerators) (set .denominators) side (given set side .samples)) e
     where
-      go : (v : Verdict) → shownBy v (reply d (callOf set (Content.Frame side)) .settled) ≡ Shown.Columns c →
+      go : (v : Verdict) → shownBy v (side .pitch) (reply d (callOf set (Content.Frame side)) .settled) ≡ Shown.Columns c →
           c .settled ≡ reply d (callOf set (Content.Frame side)) .settled
       go (Verdict.Refused answer) q = let z : _≡_ {A = ℕ} 0 1 = cc in absurd (omega arith)
       go (Verdict.Accepted plan) q = sym (ap shows q)

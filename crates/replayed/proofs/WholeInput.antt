@@ -41,7 +41,7 @@ module _ (set : Set) (lendable : Lendable set) where
   kept-of-the-decoder ls = same-states set lendable first first-fit ls
 
   -- Calls are fed what is left of the input, each offered any number of its bytes and any buffer. If at least as many of them as the
-  -- input has bytes are offered one and have 147 bytes of space, all is taken, and what was written is the replay of the whole input.
+  -- input has bytes are offered one and have 169 bytes of space, all is taken, and what was written is the replay of the whole input.
   pub any-cuts : (input : List ℕ) (cs : List Call) → length input ≤ serving bareRules cs →
       wholeText bareRules (calledAll bareRules (begun bareRules input) cs) ≡ replay set input
   any-cuts input cs l = whole.any-cuts bareRules decided input cs l ∙ as-the-decoder input

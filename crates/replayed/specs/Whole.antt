@@ -8,6 +8,7 @@ use lib.Ieee.{Float}
 use lib.ListN.{length, replicate}
 use Rattle.floats.specs.Single.{0·0}
 use Rattle.rates.specs.declared.answer.Answer.the-variants.{MalformedLine, WrongFrameNumber}
+use Rattle.lag.specs.declared.pitch.PitchRecord.{PitchRecord}
 use Rattle.control.specs.Judge.{setFinite, judged}
 use Rattle.control.specs.declared.judge.SideInfo.{SideInfo}
 use Rattle.control.specs.declared.judge.Verdict.{Verdict}
@@ -46,10 +47,10 @@ pub record Between : Type 0 where
 abbrev pub first : Between
 first = record { line = 1; last = Last.None; decoder = started 48000 10000 .decoder }
 
--- what a verdict shows: dashes, or the plan and the settled report
-abbrev pub shownBy : Verdict → Bool → Shown
-shownBy (Verdict.Refused answer) settled = Shown.Dashes
-shownBy (Verdict.Accepted plan) settled = Shown.Columns (columnsOf plan settled)
+-- what a verdict shows: dashes, or the plan, the settled report, and how the lag of the frame's pitch was rounded
+abbrev pub shownBy : Verdict → PitchRecord → Bool → Shown
+shownBy (Verdict.Refused answer) pitch settled = Shown.Dashes
+shownBy (Verdict.Accepted plan) pitch settled = Shown.Columns (columnsOf plan pitch settled)
 
 -- a line that is answered 10 or 11 leaves everything as it is
 abbrev pub skippedLine : Between → Between
@@ -70,7 +71,8 @@ module _ (set : Set) where
   abbrev pub shownOf : Decoder → Content → Shown
   shownOf d Content.Lost = Shown.Dashes
   shownOf d (Content.Frame side) =
-      shownBy (judged (d .registers) (fitDecoder d) (set .numerators) (set .denominators) side (replicate 480 0·0)) (reply d (frame (given side)) .settled)
+      shownBy (judged (d .registers) (fitDecoder d) (set .numerators) (set .denominators) side (replicate 480 0·0)) (side .pitch)
+      (reply d (frame (given side)) .settled)
 
   abbrev pub calledRow : Decoder → Content → Row
   calledRow d content = record { answer = reply d (callOf content) .answer; shown = shownOf d content }
@@ -96,7 +98,7 @@ module _ (set : Set) where
         first = first;
         moved = λ s line. movedBy s (lineRead line);
         row = λ s line. rowText (s .line) (rowOf s (lineRead line));
-        space = 147;
+        space = 169;
       }
 
   -- the header, and a row for each line

@@ -5,6 +5,7 @@ use Rattle.floats.specs.Single.{0·0}
 use Rattle.rates.specs.declared.answer.Answer.{Answer}
 use Rattle.rates.specs.declared.answer.Answer.the-variants.{Done}
 use Rattle.rates.specs.declared.config.Configured.{Configured}
+use Rattle.lag.specs.declared.pitch.PitchRecord.{PitchRecord}
 use Rattle.coefficients.specs.declared.Taps.{Taps}
 use Rattle.control.specs.State.{fitConfig}
 use Rattle.control.specs.Judge.{judgedSide}
@@ -14,6 +15,7 @@ use Rattle.control.specs.declared.judge.SideInfo.{SideInfo}
 use Rattle.control.specs.declared.judge.Plan.{Plan}
 use Rattle.control.specs.declared.judge.Verdict.{Verdict}
 use Rattle.entries.specs.declared.line.Content.{Content}
+use Rattle.replaying.specs.Roundings.{roundingFor}
 use Rattle.replaying.specs.declared.frame.Columns.{Columns}
 use Rattle.replaying.specs.declared.frame.Shown.{Shown}
 use Rattle.replaying.specs.declared.frame.Row.{Row}
@@ -23,10 +25,16 @@ use Rattle.replaying.specs.declared.frame.Played.{Played}
 abbrev pub dashedRow : Answer → Row
 dashedRow answer = record { answer = answer; shown = Shown.Dashes }
 
--- what an accepted frame shows of its plan, and the settled report
-abbrev pub columnsOf : Plan → Bool → Columns
-columnsOf plan settled =
-    record { transition = plan .transition; active = plan .active; lag = plan .lag; gain = plan .gain; settled = settled }
+-- what an accepted frame shows of its plan, the settled report, and how the lag of its pitch was rounded
+abbrev pub columnsOf : Plan → PitchRecord → Bool → Columns
+columnsOf plan pitch settled = record {
+  transition = plan .transition;
+  active = plan .active;
+  lag = plan .lag;
+  gain = plan .gain;
+  settled = settled;
+  rounding = roundingFor (plan .config .fs) pitch;
+}
 
 -- the filter of a frame, without its coefficients
 abbrev pub bareTaps : Plan → Taps
@@ -41,13 +49,14 @@ judgedWith r side (Configured.Config c) = judgedSide r c side
 unfoldable pub judgedBare : Registers → SideInfo → Verdict
 judgedBare r side = judgedWith r side (fitConfig r)
 
-abbrev pub acceptedAs : Plan → Registers → Played
-acceptedAs plan next = record { registers = next; row = record { answer = Done; shown = Shown.Columns (columnsOf plan (next .settled)) } }
+abbrev pub acceptedAs : Plan → PitchRecord → Registers → Played
+acceptedAs plan pitch next =
+    record { registers = next; row = record { answer = Done; shown = Shown.Columns (columnsOf plan pitch (next .settled)) } }
 
 -- a refused frame changes nothing; an accepted one moves the registers on
-abbrev pub playedBy : Registers → Verdict → Played
-playedBy r (Verdict.Refused answer) = record { registers = r; row = dashedRow answer }
-playedBy r (Verdict.Accepted plan) = acceptedAs plan (nextRegisters r plan (bareTaps plan))
+abbrev pub playedBy : Registers → PitchRecord → Verdict → Played
+playedBy r pitch (Verdict.Refused answer) = record { registers = r; row = dashedRow answer }
+playedBy r pitch (Verdict.Accepted plan) = acceptedAs plan pitch (nextRegisters r plan (bareTaps plan))
 
 -- a loss mark checks 9 only
 abbrev pub lostWith : Registers → Configured → Played
@@ -59,4 +68,4 @@ lostBare r = lostWith r (fitConfig r)
 
 abbrev pub replayedContent : Registers → Content → Played
 replayedContent r Content.Lost = lostBare r
-replayedContent r (Content.Frame side) = playedBy r (judgedBare r side)
+replayedContent r (Content.Frame side) = playedBy r (side .pitch) (judgedBare r side)

@@ -1,4 +1,6 @@
 // A frame and a loss mark, as far as their row goes.
+use crate::rounding::Rounding;
+use crate::rounding::rounding_for;
 use coefficients::Taps;
 use control::fitness::fit_config;
 use control::judge::Plan;
@@ -11,6 +13,7 @@ use control::registers::Registers;
 use entries::line::Content;
 use filter::transition::Transition;
 use lag::gain::Gain;
+use lag::pitch::PitchRecord;
 use lag::rescale::Lag;
 use rates::answer::Answer;
 use rates::config::Configured;
@@ -24,6 +27,7 @@ pub struct Columns {
     pub lag: Lag,
     pub gain: Gain,
     pub settled: bool,
+    pub rounding: Rounding,
 }
 
 pub enum Shown {
@@ -67,10 +71,12 @@ fn bare_filter(plan: Plan) -> Taps
     }
 }
 
-// What the row of a frame shows of its plan.
-fn columns_of(plan: Plan, settled: bool) -> Columns
-    ensures { λ r. ⌜ r ≡ columnsOf plan settled ⌝ }
+// What the row of a frame shows of its plan, its pitch and the report.
+fn columns_of(plan: Plan, pitch: PitchRecord, settled: bool) -> Columns
+    ensures { λ r. ⌜ r ≡ columnsOf plan pitch settled ⌝ }
 {
+    let config = plan.config;
+    let fs = config.fs;
     let transition = plan.transition;
     let lag = plan.lag;
     let gain = plan.gain;
@@ -80,6 +86,7 @@ fn columns_of(plan: Plan, settled: bool) -> Columns
         lag,
         gain,
         settled,
+        rounding: rounding_for(fs, pitch),
     }
 }
 
@@ -93,9 +100,9 @@ fn judge_bare(registers: Registers, side: SideInfo) -> Verdict
     }
 }
 
-// What a verdict leads to.
-fn play(registers: Registers, verdict: Verdict) -> Played
-    ensures { λ r. ⌜ r ≡ playedBy registers verdict ⌝ }
+// What a verdict on a frame with this pitch leads to.
+fn play(registers: Registers, pitch: PitchRecord, verdict: Verdict) -> Played
+    ensures { λ r. ⌜ r ≡ playedBy registers pitch verdict ⌝ }
 {
     match verdict {
         Verdict::Refused(answer) => Played {
@@ -108,7 +115,7 @@ fn play(registers: Registers, verdict: Verdict) -> Played
                 registers: next,
                 row: Row {
                     answer: Answer::Done,
-                    shown: Shown::Columns(columns_of(plan, next.settled)),
+                    shown: Shown::Columns(columns_of(plan, pitch, next.settled)),
                 },
             }
         }
@@ -140,6 +147,9 @@ pub fn replay_content(registers: Registers, content: Content) -> Played
 {
     match content {
         Content::Lost => lose(registers),
-        Content::Frame(side) => play(registers, judge_bare(registers, side)),
+        Content::Frame(side) => {
+            let pitch = side.pitch;
+            play(registers, pitch, judge_bare(registers, side))
+        }
     }
 }

@@ -8,14 +8,17 @@ use Rattle.replay_listing.proofs.row.put_columns.Tie as tie
 
 returns : tie.Need-returns
 returns c =
-    let gain = c .before .before .before .before .before .before .before in
+    let settled = c .before .before .before .before .before .before in
+    let gain = settled .before .before .before .before .before in
     let lag = gain .before .before .before .before in
     let case = lag .before .before .before .before in (
       written-then
           (written-then
+          (written-then
           (written-then (cell-written 9 (case .before .case-number .ensures) (case .put-cell .ensures .0) (omega arith)) (lag .put-lag .ensures .0))
           (gain .put-gain .ensures .0))
-          (cell-written 9 (c .before .before .before .flag-number .ensures) (c .before .before .put-cell2 .ensures .0) (omega arith)),
+          (cell-written 9 (settled .before .flag-number .ensures) (settled .put-cell2 .ensures .0) (omega arith)))
+          (c .before .before .put-rounding .ensures .0),
       omega arith,
     )
 
@@ -23,6 +26,7 @@ pub put-columns-spec : {M : Type 1} → statement M
 put-columns-spec =
     tie.close
     (tie.spec
+    (λ c κs. search needs)
     (λ c κs. search needs)
     (λ c κs. search needs)
     (λ c κs. search needs)

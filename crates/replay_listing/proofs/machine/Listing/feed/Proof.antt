@@ -18,7 +18,7 @@ abbrev μ-loop : tie.MeasureT-loop
 μ-loop input out₀ replay₀ held₀ at₀ used₀ out replay held at used = length input - used
 
 -- in a turn there is space for a row, and the bytes of a line are none that were taken before
-space : (c : tie.Then1 Inv-loop μ-loop) → 147 ≤ length (c .before .before .loop .out) - c .before .before .loop .at
+space : (c : tie.Then1 Inv-loop μ-loop) → 169 ≤ length (c .before .before .loop .out) - c .before .before .loop .at
 space c = leb-true _ _ (c .if1 .taken)
 
 onward : (c : tie.After-take-line Inv-loop μ-loop) → c .before .before .before .loop .used ≤ c .take-line .result .at

@@ -1,0 +1,19 @@
+-- How the lag of a frame was rounded, as far as its row goes.
+use Prim.Native.Nat.{ℕ}
+use mathlib.Core.Bool.{cond}
+use Rattle.rates.specs.declared.table.Rate.{Rate}
+use Rattle.lag.specs.Lag.{lookedUpLag}
+use Rattle.lag.specs.declared.pitch.PitchRecord.{PitchRecord}
+use Rattle.lag.specs.declared.pitch.PitchRecord.the-variants.{Absent, Present}
+use Rattle.lag.specs.declared.rescale.LookedUpLag.{LookedUpLag}
+use Rattle.replaying.specs.declared.rounding.Rounding.{Rounding}
+
+-- as the lag lookup says; no lag, no rounding
+abbrev pub roundingOf : LookedUpLag → Rounding
+roundingOf (LookedUpLag.Lag l) = Rounding.Difference (l .rounding)
+roundingOf LookedUpLag.IndexTooLarge = Rounding.Dash
+
+-- an absent or inactive pitch shows no lag
+abbrev pub roundingFor : Rate → PitchRecord → Rounding
+roundingFor fs Absent = Rounding.Dash
+roundingFor fs (Present p) = cond (p .active) (roundingOf (lookedUpLag fs (p .index))) Rounding.Dash

@@ -1,0 +1,31 @@
+// How the lag of a frame was rounded, as far as its row goes.
+use lag::pitch::PitchRecord;
+use lag::rescale::LookedUpLag;
+use lag::rescale::look_up_lag;
+use rates::table::Rate;
+ghost use mathlib.Core.Path.{_≡_};
+ghost use Rattle.replaying.specs.Roundings.{roundingFor};
+
+// What a row shows of it: a dash where no lag is shown.
+pub enum Rounding {
+    Dash,
+    Difference(i32),
+}
+
+// The rounding of a pitch's lag at a rate. An absent or inactive pitch has none.
+pub(crate) fn rounding_for(fs: Rate, pitch: PitchRecord) -> Rounding
+    ensures { λ r. ⌜ r ≡ roundingFor fs pitch ⌝ }
+{
+    match pitch {
+        PitchRecord::Absent => Rounding::Dash,
+        PitchRecord::Present(present) => {
+            if !present.active {
+                return Rounding::Dash;
+            }
+            match look_up_lag(fs, present.index) {
+                LookedUpLag::Lag(lag) => Rounding::Difference(lag.rounding),
+                LookedUpLag::IndexTooLarge => Rounding::Dash,
+            }
+        }
+    }
+}
