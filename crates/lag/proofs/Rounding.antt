@@ -9,8 +9,6 @@ use borrow.Author.Tests.{ltb-true, ltb-false}
 use lib.Dec.{ltb, le→leb}
 use lib.IntN.{ℤ, pos, negsuc, natAbs, subℕ, pos-ne-negsuc}
 use lib.Signed.{_≤ℤ_, leZ-yes}
-use mir.Syntax.{w32}
-use mir.Val.{SFits}
 use Rattle.rates.specs.declared.table.Rate.{Rate}
 use Rattle.lag.specs.Lag.{unscaledOf, rescaled, scaledTo, foundLag, rounding, roundedTo, lookedUpLag}
 use Rattle.lag.specs.declared.index.Unscaled.{Unscaled}
@@ -73,14 +71,6 @@ rounding-drops r q = go (ltb eight (5 * r * q)) (ltb 4 rest) refl refl
     go true false p u = absurd (omega (arith, ltb-true eight (5 * r * q) p, ltb-false 4 rest u))
     go false true p u = absurd (omega (arith, ltb-false eight (5 * r * q) p, ltb-true 4 rest u))
     go false false p u = ap pos (omega (arith, ltb-false 4 rest u))
-
--- so it fits 32 bits
-pub rounding-fits : (r q : ℕ) → SFits w32 (rounding r q)
-rounding-fits r q = rw (rounding-drops r q) (go (ltb 4 ((5 * r * q + 4) % 8)))
-  where
-    go : (b : Bool) → SFits w32 (cond b (negsuc ((5 * r * q + 4) % 8 - 5)) (pos (4 - (5 * r * q + 4) % 8)))
-    go true = record { sfits = omega arith }
-    go false = record { sfits = omega arith }
 
 -- a product of 5, 32 and 16 bits is far below 2 ^ 64
 pub product-small : (r q : ℕ) → r ≤ 4294967295 → q ≤ 65535 → 5 * r * q ≤ 5 * 4294967295 * 65535

@@ -3,6 +3,7 @@ use crate::index::Unscaled;
 use crate::index::unscaled_lag;
 use rates::table::Rate;
 ghost use mathlib.Core.Path.{_≡_};
+ghost use Prim.Native.Nat.{_+_, _*_, _%_};
 ghost use Rattle.lag.specs.Lag.{lagOf, foundLag, rounding, lookedUpLag};
 
 pub struct Lag {
@@ -47,11 +48,18 @@ pub fn compute_filter_parameters(fs: Rate, pitch_index: u32) -> FoundLag
     FoundLag::Lag(rescale(fs.r, quarters))
 }
 
-// How such a lag is rounded: 4 are added to 5·R·q, and the shift drops what the mask 7 leaves.
+// What the shift drops of 5·R·q + 4.
+fn dropped(r: u32, quarters: u16) -> usize
+    ensures { λ d. ⌜ d ≡ (5 * r * quarters + 4) % 8 ⌝ }
+{
+    (5 * r as usize * quarters as usize + 4) & 7
+}
+
+// How such a lag is rounded: 4 are added, and the rest by 8 is dropped.
 fn rounding(r: u32, quarters: u16) -> i32
     ensures { λ d. ⌜ d ≡ rounding r quarters ⌝ }
 {
-    4 - ((5 * r as usize * quarters as usize + 4) & 7) as i32
+    4 - dropped(r, quarters) as i32
 }
 
 // The lag lookup: the lag of an index at a rate, and how it was rounded.

@@ -1,5 +1,4 @@
 -- How the lag of a frame was rounded, as far as its row goes.
-use Prim.Native.Nat.{ℕ}
 use mathlib.Core.Bool.{cond}
 use Rattle.rates.specs.declared.table.Rate.{Rate}
 use Rattle.lag.specs.Lag.{lookedUpLag}

@@ -1,8 +1,6 @@
 -- `look_up_lag` rescales the lag that it looked up, and says how.
 use mir.Syntax.{w32}
 use mir.ValLaws.{toZ-ofZ}
-use Rattle.lag.specs.Lag.{rounding}
-use Rattle.lag.proofs.Rounding.{rounding-fits}
 use borrow.Author.Needs.{needs}
 use Rattle.lag.proofs.rescale.look_up_lag.Statement.{statement}
 use Rattle.lag.proofs.rescale.look_up_lag.Tie as tie
@@ -29,8 +27,8 @@ returns-2 : tie.Need-returns-2
 returns-2 c =
     rw (
       c .before .rescale .ensures,
+      toZ-ofZ w32 (c .rounding .result) (search needs),
       c .rounding .ensures,
-      toZ-ofZ w32 (rounding _ _) (rounding-fits _ _),
       ← c .before .before .before .before .before .unscaled-lag .ensures,
       c .before .before .before .quarters .given .1,
     )

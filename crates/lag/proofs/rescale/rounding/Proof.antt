@@ -1,51 +1,47 @@
--- `rounding`: 4 less what is dropped, which is a small integer. The mask 7 leaves the remainder by 8.
-use Prim.Native.Nat.{ℕ, zero, suc, _+_, _*_, _%_, _≤_}
-use mathlib.Core.Path.{_≡_, refl, sym, ap, _∙_, subst}
+-- `rounding`: 4 less what is dropped, which is a small integer.
+use Prim.Native.Nat.{ℕ, zero, suc, _-_, _≤_}
+use mathlib.Core.Path.{_≡_, refl, sym, ap, _∙_}
+use mathlib.Core.Bool.{Bool, true, false, cond}
 use native.Mathlib.Omega.{arith}
-use lib.Bits.{bitAnd, and-mask, mask-lt}
-use lib.IntN.{pos, subℕ, _-ℤ_}
+use borrow.Author.Tests.{le-ltb}
+use lib.Dec.{ltb}
+use lib.IntN.{pos, negsuc, subℕ, _-ℤ_}
 use mir.Syntax.{w32}
-use mir.Val.{SFits, toZ, ofZ}
+use mir.Val.{SFits, toZ}
 use mir.ValLaws.{toZ-pos, toZ-ofZ}
-use Rattle.lag.specs.Lag.{rounding}
-use Rattle.lag.proofs.Rounding.{rounding-drops, rounding-fits, product-small}
+use Rattle.lag.proofs.Rounding.{rounding-drops}
 use borrow.Author.Needs.{needs}
 use Rattle.lag.proofs.rescale.rounding.Statement.{statement}
 use Rattle.lag.proofs.rescale.rounding.Tie as tie
 
-difference : (m : ℕ) → pos 4 -ℤ pos m ≡ subℕ 4 m
-difference zero = refl
-difference (suc m) = refl
+-- the difference of two bytes, and that it fits
+difference : (a b : ℕ) → a ≤ 255 → b ≤ 255 → toZ w32 a -ℤ toZ w32 b ≡ subℕ a b
+difference a b g h = rw (toZ-pos w32 a (omega arith), toZ-pos w32 b (omega arith)) (go b)
+  where
+    go : (n : ℕ) → pos a -ℤ pos n ≡ subℕ a n
+    go zero = rw (le-ltb a 0 (omega arith)) (ap pos (omega arith))
+    go (suc n) = refl
 
-small : (c : tie.Start) → 5 * c .args .r * c .args .quarters ≤ 5 * 4294967295 * 65535
-small c = product-small (c .args .r) (c .args .quarters) (omega arith) (omega arith)
+difference-fits : (a b : ℕ) → a ≤ 255 → b ≤ 255 → SFits w32 (toZ w32 a -ℤ toZ w32 b)
+difference-fits a b g h = rw (difference a b g h) (go (ltb a b))
+  where
+    go : (t : Bool) → SFits w32 (cond t (negsuc (b - suc a)) (pos (a - b)))
+    go true = record { sfits = omega arith }
+    go false = record { sfits = omega arith }
 
-subtracted : (r q : ℕ) → pos 4 -ℤ toZ w32 (bitAnd (5 * r * q + 4) 7) ≡ rounding r q
-subtracted r q =
-    let rest = (5 * r * q + 4) % 8 in
-    ap (λ (m : ℕ). pos 4 -ℤ toZ w32 m) (and-mask (5 * r * q + 4) 3) ∙ ap (λ z. pos 4 -ℤ z) (toZ-pos w32 rest (omega arith)) ∙ difference rest ∙
-    sym (rounding-drops r q)
-
-mul-result : tie.Need-mul-result
-mul-result c = search needs
-
-mul-result-2 : tie.Need-mul-result-2
-mul-result-2 c = omega (arith, small c)
-
-add-result : tie.Need-add-result
-add-result c = omega (arith, small c)
+byte : (c : tie.After-dropped) → c .dropped .result ≤ 255
+byte c = omega (arith, c .dropped .ensures)
 
 cast-result : tie.Need-cast-result
-cast-result c = record { sfits = omega (arith, mask-lt (5 * c .args .r * c .args .quarters + 4) 3) }
+cast-result c = record { sfits = omega (arith, byte c) }
 
 sub-result : tie.Need-sub-result
-sub-result c = subst (SFits w32) (sym (subtracted (c .args .r) (c .args .quarters))) (rounding-fits (c .args .r) (c .args .quarters))
+sub-result c = search (needs, difference-fits, byte c)
 
 returns : tie.Need-returns
 returns c =
-    ap (λ z. toZ w32 (ofZ w32 z)) (subtracted (c .args .r) (c .args .quarters)) ∙
-    toZ-ofZ w32 (rounding (c .args .r) (c .args .quarters)) (rounding-fits (c .args .r) (c .args .quarters))
+    toZ-ofZ w32 _ (sub-result c) ∙ difference 4 (c .dropped .result) (omega arith) (byte c) ∙ ap (subℕ 4) (c .dropped .ensures) ∙
+    sym (rounding-drops (c .before .args .r) (c .before .args .quarters))
 
 pub rounding-spec : {M : Type 1} → statement M
-rounding-spec =
-    tie.close (tie.spec mul-result mul-result-2 add-result cast-result sub-result returns)
+rounding-spec = tie.close (tie.spec (λ c κs. search needs) cast-result sub-result returns)
