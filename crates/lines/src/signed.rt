@@ -1,19 +1,7 @@
 // The cell of a number that may be below 0.
 use crate::cell::put_cell;
-ghost use mathlib.Core.Path.{_≡_};
 ghost use Prim.Native.Nat.{_+_, _≤_};
-ghost use lib.IntN.{natAbs};
 ghost use Rattle.lines.specs.Texts.{Put, signedCell};
-
-// A number without its sign.
-fn unsigned(n: i32) -> u64
-    ensures { λ r. ⌜ r ≡ natAbs n ⌝ }
-{
-    if n < 0 {
-        return (-1 - n) as u64 + 1;
-    }
-    n as u64
-}
 
 // A number that may be below 0, and the byte that ends its cell. Where too little space is left it
 // writes nothing, and answers `at`.
@@ -29,7 +17,7 @@ pub fn put_signed(out: &mut [u8], at: usize, n: i32, end: u8) -> usize
     }
     if n < 0 {
         out[at] = b'-';
-        return put_cell(out, at + 1, unsigned(n), end);
+        return put_cell(out, at + 1, (-1 - n) as u64 + 1, end);
     }
-    put_cell(out, at, unsigned(n), end)
+    put_cell(out, at, n as u64, end)
 }
