@@ -2,8 +2,8 @@
 """Writes the listing that a file of rates and pitch indices must give.
 
 An independent reading for the tests' expected files: the lag goes by the floating-point formula of
-the Rust decoder (compute_filter_parameters), not by our whole numbers, and its rounding is eight
-times that lag in quarters less 5·R·q. Use: lags.py <INPUT >OUTPUT
+the Rust decoder (compute_filter_parameters), not by our whole numbers, and the rounding is eight
+times that lag in quarters, less 5·R·q. Use: lags.py <INPUT >OUTPUT
 """
 import math
 import re

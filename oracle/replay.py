@@ -3,7 +3,7 @@
 
 An independent reading of the rules for the tests' expected files: the lag goes by the floating-point
 formula of the Rust decoder (compute_filter_parameters) at 48000 Hz, not by our whole numbers, and
-no samples are filtered; a lag's rounding is eight times it in quarters less 5·6·q.
+no samples are filtered; the rounding is eight times the lag in quarters, less 5·6·q.
 Use: replay.py <INPUT >OUTPUT
 """
 import re

@@ -1,4 +1,4 @@
--- What follows from the definitions of the lag: it rises, it codes back to its index, and it is rescaled to the nearest quarter.
+-- What follows from the definitions of the lag: it rises, it codes back to its index, and rescaled it never falls.
 use Prim.Native.Nat.{ℕ, _+_, _-_, _*_, _/_, _%_, _≤_, _<_, min, max}
 use mathlib.Core.Path.{_≡_, refl}
 use mathlib.Core.Bool.{Bool, true, false, cond}
@@ -61,12 +61,7 @@ lag-index-lag w f l u h half none = go (leb 127 w) (leb 157 w) refl refl
     go false true p q = omega (arith, leb-false 127 w p, leb-true 157 w q)
     go false false p q = omega (arith, facts, leb-false 127 w p)
 
--- eight times the rescaled lag lies within 4 of 5·R·q, and at a half it lies above
-pub rescaled-near : (r q : ℕ) → (5 * r * q < 8 * rescaled r q + 4) × (8 * rescaled r q ≤ 5 * r * q + 4)
-unfolding rescaled
-rescaled-near r q = omega arith
-
--- it never falls with the lag, nor with the index
+-- rescaled, it never falls with the lag, nor with the index
 pub rescaled-keeps-order : (r : ℕ) {p q : ℕ} → p ≤ q → rescaled r p ≤ rescaled r q
 unfolding rescaled
 rescaled-keeps-order r {p} {q} h = omega (arith, mul-le-mul-left (5 * r) h)

@@ -2,7 +2,7 @@
 use Prim.Native.Nat.{ℕ, _+_, _-_, _*_, _/_, _%_}
 use mathlib.Core.Bool.{cond}
 use lib.Dec.{leb, ltb}
-use lib.IntN.{ℤ, subℕ}
+use lib.IntN.{ℤ, pos, _-ℤ_}
 use Rattle.rates.specs.declared.table.Rate.{Rate}
 use Rattle.lag.specs.declared.index.Unscaled.{Unscaled}
 use Rattle.lag.specs.declared.rescale.Lag.{Lag}
@@ -39,9 +39,9 @@ scaledTo fs Unscaled.IndexTooLarge = FoundLag.IndexTooLarge
 abbrev pub foundLag : Rate → ℕ → FoundLag
 foundLag fs index = scaledTo fs (unscaledOf index)
 
--- how it was rounded: the signed difference of eight times the rescaled quarters from 5·R·q. (subℕ a b is the integer a - b.)
+-- how it was rounded: the signed difference of eight times the rescaled quarters from 5·R·q
 unfoldable pub rounding : ℕ → ℕ → ℤ
-rounding r q = subℕ (8 * rescaled r q) (5 * r * q)
+rounding r q = pos (8 * rescaled r q) -ℤ pos (5 * r * q)
 
 -- the lag lookup: the lag of an index at a rate, and how it was rounded
 abbrev pub roundedTo : Rate → Unscaled → LookedUpLag

@@ -16,7 +16,7 @@ pub enum FoundLag {
     IndexTooLarge,
 }
 
-// A lag, and by how many eighths of a quarter the rounding made it longer: less than 0 where shorter.
+// A lag, and by how many eighths of a quarter rounding made it longer; below 0, shorter.
 pub struct RoundedLag {
     pub lag: Lag,
     pub rounding: i32,
@@ -48,14 +48,14 @@ pub fn compute_filter_parameters(fs: Rate, pitch_index: u32) -> FoundLag
     FoundLag::Lag(rescale(fs.r, quarters))
 }
 
-// What the shift drops of 5·R·q + 4.
+// What the shift of `rescale` drops of 5·R·q + 4.
 fn dropped(r: u32, quarters: u16) -> usize
     ensures { λ d. ⌜ d ≡ (5 * r * quarters + 4) % 8 ⌝ }
 {
     (5 * r as usize * quarters as usize + 4) & 7
 }
 
-// How such a lag is rounded: 4 are added, and the rest by 8 is dropped.
+// The rounding of such a rescaled lag: up by the 4 that is added, and down by what is dropped.
 fn rounding(r: u32, quarters: u16) -> i32
     ensures { λ d. ⌜ d ≡ rounding r quarters ⌝ }
 {

@@ -15,7 +15,7 @@ unfoldable pub decimal : ℕ → List ℕ
 unfolding digits
 decimal n = digits (suc n) n
 
--- an integer: one below 0 has a dash before its digits. (negsuc n is -(n + 1).)
+-- an integer: one below 0 has a minus before its digits. (negsuc n is -(n + 1).)
 abbrev pub signedDecimal : ℤ → List ℕ
 signedDecimal (pos n) = decimal n
 signedDecimal (negsuc n) = 45 ∷ decimal (n + 1)

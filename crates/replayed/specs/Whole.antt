@@ -67,7 +67,7 @@ module _ (set : Set) where
   callOf Content.Lost = loss
   callOf (Content.Frame side) = frame (given side)
 
-  -- what its row shows: nothing of a loss mark; of a frame the decoder's verdict on it, and the report that the call gives
+  -- what its row shows: nothing of a loss mark; of a frame the decoder's verdict on it, how its lag was rounded, and the report that the call gives
   abbrev pub shownOf : Decoder → Content → Shown
   shownOf d Content.Lost = Shown.Dashes
   shownOf d (Content.Frame side) =

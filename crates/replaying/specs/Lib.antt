@@ -1,4 +1,4 @@
--- A replay without samples and coefficients: how its lag was rounded, what came of a frame, and a line.
+-- A replay without samples and coefficients: how the lag of a frame was rounded, what came of the frame, and a line.
 pub mod Roundings
 pub mod Frames
 pub mod Steps

@@ -1,4 +1,4 @@
--- How the lag of a frame was rounded, as far as its row goes.
+-- How the lag of a frame was rounded, as its row shows it.
 use mathlib.Core.Bool.{cond}
 use Rattle.rates.specs.declared.table.Rate.{Rate}
 use Rattle.lag.specs.Lag.{lookedUpLag}

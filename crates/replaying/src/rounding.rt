@@ -1,4 +1,4 @@
-// How the lag of a frame was rounded, as far as its row goes.
+// How the lag of a frame was rounded, as its row shows it.
 use lag::pitch::PitchRecord;
 use lag::rescale::LookedUpLag;
 use lag::rescale::look_up_lag;
@@ -6,7 +6,7 @@ use rates::table::Rate;
 ghost use mathlib.Core.Path.{_≡_};
 ghost use Rattle.replaying.specs.Roundings.{roundingFor};
 
-// What a row shows of it: a dash where no lag is shown.
+// A dash where no lag is shown.
 pub enum Rounding {
     Dash,
     Difference(i32),

@@ -10,7 +10,6 @@ use borrow.Author.Needs.{needs}
 use Rattle.lag.proofs.rescale.rescale.Statement.{statement}
 use Rattle.lag.proofs.rescale.rescale.Tie as tie
 
--- the product is far below 2 ^ 64
 small : (c : tie.Start) → 5 * c .args .r * c .args .quarters ≤ 5 * 4294967295 * 65535
 small c = product-small (c .args .r) (c .args .quarters) (omega arith) (omega arith)
 
