@@ -80,7 +80,7 @@ dashed c =
     let t = c .before .before .before .before in
     let s = t .before .before .before .before in
     let sign : Written (s .args .out .now) (s .args .at) (45 ∷ []) (set (s .args .out .now) (s .args .at) 45) (s .args .at + 1) = record { stored = refl; ends = refl } in
-    let number = rw (bits t) at (written (c .before .before .put-cell .ensures .0) (omega (arith, length-set (s .args .out .now) (s .args .at) 45))) in
+    let number = rw (bits t) at (written (c .before .before .put-cell .ensures .0) (simp length-set (omega arith))) in
     rw (← below t .text (s .args .end)) (written-then sign number)
 
 returns-3 : tie.Need-returns-3
