@@ -3,8 +3,8 @@ use crate::cell::put_cell;
 ghost use Prim.Native.Nat.{_+_, _≤_};
 ghost use Rattle.lines.specs.Texts.{Put, signedCell};
 
-// Such a number, and the byte that ends its cell; with too little space nothing, as in `cell`. Below 0
-// it is -1 - n that is taken, since of the least number -n does not fit.
+// Such a number, and the byte that ends its cell; where too little space is left nothing, as in `cell`.
+// Below 0 it takes -1 - n, since -n does not fit 32 bits for the least number.
 pub fn put_signed(out: &mut [u8], at: usize, n: i32, end: u8) -> usize
     ensures { λ r. ⌜ Put 22 (now (out .entry)) at (signedCell n end) (now (out .exit)) r ⌝ }
     ensures { λ r. ⌜ r ≤ at + 22 ⌝ }

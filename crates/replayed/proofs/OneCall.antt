@@ -101,6 +101,17 @@ in-range : (v : Verdict) → rangeJudged (replicate 480 0·0) v ≡ v
 in-range (Verdict.Refused answer) = refl
 in-range (Verdict.Accepted plan) = rw (range-zeros 480)
 
+-- the decoder's verdict on a frame of a replay goes by what judging comes to
+abbrev pub outcome-of : (set : Set) (side : SideInfo) → OutcomeOf config (given set side)
+outcome-of set side = outcome config (set .numerators) (set .denominators) side (replicate 480 0·0) .0
+
+pub by-outcome : (set : Set) (d : Decoder) → FitState config d → (side : SideInfo) →
+    judged (d .registers) (fitDecoder d) (set .numerators) (set .denominators) side (replicate 480 0·0) ≡
+    verdict config (set .numerators) (set .denominators) side (replicate 480 0·0) (d .registers) (outcome-of set side)
+by-outcome set d fit side =
+    ap (λ (k : Configured). judged (d .registers) k (set .numerators) (set .denominators) side (replicate 480 0·0)) (fit .found) ∙
+    outcome config (set .numerators) (set .denominators) side (replicate 480 0·0) .1 (d .registers)
+
 module _ (set : Set) (lendable : Lendable set) (d : Decoder) (fit : FitState config d) where
   -- so the verdict without coefficients is the decoder's on the side information
   pub bare-verdict : (side : SideInfo) → judgedBare (bare (d .registers)) side ≡ judgedSide (d .registers) config side
@@ -139,10 +150,7 @@ module _ (set : Set) (lendable : Lendable set) (d : Decoder) (fit : FitState con
       }
 
   same-judged : (side : SideInfo) → Same side (judgedBare (bare (d .registers)) side)
-  same-judged side =
-      let o = outcome config (set .numerators) (set .denominators) side (replicate 480 0·0) in
-      let known = ap (λ (k : Configured). judged (d .registers) k (set .numerators) (set .denominators) side (replicate 480 0·0)) (fit .found) in
-      subst (Same side) (sym (o .1 (d .registers)) ∙ sym known ∙ same-verdict side) (same-outcome side (o .0))
+  same-judged side = subst (Same side) (sym (by-outcome set d fit side) ∙ same-verdict side) (same-outcome side (outcome-of set side))
 
   -- a call that a replay makes
   pub record SameCall (content : Content) : Type 0 where

@@ -6,7 +6,6 @@ use mathlib.Core.Bool.{Bool, true, false, cond}
 use native.Mathlib.Omega.{arith}
 use lib.ListN.{replicate}
 use Rattle.floats.specs.Single.{0·0}
-use Rattle.rates.specs.declared.config.Configured.{Configured}
 use Rattle.lag.specs.Lag.{lookedUpLag}
 use Rattle.lag.specs.declared.pitch.Present as present
 use Rattle.lag.specs.declared.pitch.PitchRecord.{PitchRecord}
@@ -16,10 +15,9 @@ use Rattle.lag.specs.declared.rescale.RoundedLag.{RoundedLag}
 use Rattle.lag.specs.declared.rescale.LookedUpLag.{LookedUpLag}
 use Rattle.lag.proofs.Rounding.{lagAlone, same-lag}
 use Rattle.control.specs.Pitch.{isActive, lagWhere, lagFor}
-use Rattle.control.specs.Judge.{judged}
 use Rattle.control.specs.declared.judge.SideInfo.{SideInfo}
 use Rattle.control.specs.declared.judge.Verdict.{Verdict}
-use Rattle.control.proofs.Judging.{declined, passed, verdict, outcome}
+use Rattle.control.proofs.Judging.{declined, passed, verdict}
 use Rattle.decoder.specs.declared.state.Decoder.{Decoder}
 use Rattle.settling.specs.Calls.{frame, reply, FitState}
 use Rattle.settling.proofs.Judging.{OutcomeOf}
@@ -29,7 +27,7 @@ use Rattle.replaying.specs.declared.frame.Columns.{Columns}
 use Rattle.replaying.specs.declared.frame.Shown.{Shown}
 use Rattle.replaying.specs.declared.rounding.Rounding.{Rounding}
 use Rattle.replayed.specs.Whole.{Set, shownBy, given, shownOf}
-use Rattle.replayed.proofs.OneCall.{config}
+use Rattle.replayed.proofs.OneCall.{config, outcome-of, by-outcome}
 
 -- what is shown of a frame's pitch: no lag, or one lookup of its index
 pub data OneLookup (pitch : PitchRecord) (c : Columns) : Type 0 where
@@ -53,9 +51,7 @@ of-found (Present p) c a r f =
 pub rounding-column : (set : Set) (d : Decoder) → FitState config d → (side : SideInfo) (c : Columns) →
     shownOf set d (Content.Frame side) ≡ Shown.Columns c → OneLookup (side .pitch) c
 rounding-column set d fit side c e =
-    let o = outcome config (set .numerators) (set .denominators) side (replicate 480 0·0) in
-    let known = ap (λ (k : Configured). judged (d .registers) k (set .numerators) (set .denominators) side (replicate 480 0·0)) (fit .found) in
-    go (o .0) (ap (λ (v : Verdict). shownBy v (side .pitch) settled) (sym (o .1 (d .registers)) ∙ sym known) ∙ e)
+    go (outcome-of set side) (ap (λ (v : Verdict). shownBy v (side .pitch) settled) (sym (by-outcome set d fit side)) ∙ e)
   where
     settled : Bool
     settled = reply d (frame (given set side)) .settled
