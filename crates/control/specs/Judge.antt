@@ -59,15 +59,16 @@ abbrev pub rangeJudged : List Float → Verdict → Verdict
 rangeJudged samples (Refused answer) = Refused answer
 rangeJudged samples (Accepted plan) = unless (allInRange samples) SampleOutOfRange (Accepted plan)
 
--- 9, which fitness decided; then 3, 4, 5; then 6 and 7, and last 8
-abbrev pub judgedWith : Registers → List Float → List Float → SideInfo → List Float → Configured → Verdict
-judgedWith r numerators denominators side samples (Configured.Refused answer) = Refused answer
-judgedWith r numerators denominators side samples (Configured.Config c) =
+-- 9, which fitness decided; then 3, 4, 5; then 6 and 7, and last 8. What 5 asks of the number of samples is a test of the configuration
+abbrev pub judgedWith : Registers → List Float → List Float → SideInfo → (Lc3Config → Bool) → List Float → Configured → Verdict
+judgedWith r numerators denominators side counted samples (Configured.Refused answer) = Refused answer
+judgedWith r numerators denominators side counted samples (Configured.Config c) =
     unless (setCounts c numerators denominators) CoefficientCount
     (unless (setFinite numerators denominators) CoefficientNotFinite
-    (unless (eqb (length samples) (c .nf)) SampleCount
+    (unless (counted c) SampleCount
     (rangeJudged samples (judgedSide r c side))))
 
--- the verdict on a frame given to registers whose fitness is known
+-- the verdict on a frame given to registers whose fitness is known: the samples are to be as many as the configuration's frame
 unfoldable pub judged : Registers → Configured → List Float → List Float → SideInfo → List Float → Verdict
-judged r fitted numerators denominators side samples = judgedWith r numerators denominators side samples fitted
+judged r fitted numerators denominators side samples =
+    judgedWith r numerators denominators side (λ c. eqb (length samples) (c .nf)) samples fitted

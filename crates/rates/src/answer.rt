@@ -16,6 +16,7 @@ pub enum Answer {
     MalformedLine,
     WrongFrameNumber,
     PaddingSet,
+    EarsDiffer,
     TooFewBytes,
 }
 
@@ -37,6 +38,7 @@ pub fn number(answer: Answer) -> u64
         Answer::MalformedLine => 10,
         Answer::WrongFrameNumber => 11,
         Answer::PaddingSet => 12,
+        Answer::EarsDiffer => 13,
         Answer::TooFewBytes => 15,
     }
 }
