@@ -65,17 +65,17 @@ module _ {ear : Ear} {nums dens own buffer : List Float} {plan : Plan} {xs ys : 
       (allApart (done (accepted (stateOf ear xs ys) plan nums dens own)))
   alone = carried-out r f ys′ (rw taken at e)
 
-  pub left-alone : (buffer′ : List Float) →
+  pub left-carried : (buffer′ : List Float) →
       buffer′ ≡ inTurn (take (plan .config .nf) (drop (ear .«block_start_index») ys′)) (take (plan .config .nf) (drop 0 others)) →
       _≡_ {A = FramedInPlace × List Float × List Float × List Float} (f, xs′, ys′, buffer′)
       (leftApart (done (accepted (stateOf ear xs ys) plan nums dens own)) rest)
-  left-alone buffer′ b = rw (b, back, taken) (ap (λ (q : FramedInPlace × List Float × List Float × List Float). (q .0, q .1, q .2, inTurn (q .3) rest)) alone)
+  left-carried buffer′ b = rw (b, back, taken) (ap (λ (q : FramedInPlace × List Float × List Float × List Float). (q .0, q .1, q .2, inTurn (q .3) rest)) alone)
 
-  pub right-alone : (buffer′ : List Float) →
+  pub right-carried : (buffer′ : List Float) →
       buffer′ ≡ inTurn (take (plan .config .nf) (drop 0 others)) (take (plan .config .nf) (drop (ear .«block_start_index») ys′)) →
       _≡_ {A = FramedInPlace × List Float × List Float × List Float} (f, xs′, ys′, buffer′)
       (rightApart rest (done (accepted (stateOf ear xs ys) plan nums dens own)))
-  right-alone buffer′ b = rw (b, back, taken) (ap (λ (q : FramedInPlace × List Float × List Float × List Float). (q .0, q .1, q .2, inTurn rest (q .3))) alone)
+  right-carried buffer′ b = rw (b, back, taken) (ap (λ (q : FramedInPlace × List Float × List Float × List Float). (q .0, q .1, q .2, inTurn rest (q .3))) alone)
 
 -- what both ears give, put together
 pub both-apart : {a b : Framed × List Float} {f g : FramedInPlace} {x y out u v rest : List Float} →

@@ -2,7 +2,7 @@
 use Prim.Native.Nat.{ℕ, _*_}
 use mathlib.Core.Path.{_≡_, refl, sym, _∙_}
 use mathlib.Core.Bool.{Bool, true, false}
-use mathlib.Core.List.{List}
+use mathlib.Core.List.{List, []}
 use native.Mathlib.Omega.{arith}
 use borrow.Author.Tests.{eqb-true, eqb-false, eq-eqb, ne-eqb}
 use lib.Dec.{eqb}
@@ -21,7 +21,8 @@ use Rattle.control.specs.declared.judge.Verdict.{Verdict}
 use Rattle.control.specs.declared.judge.Verdict.the-variants.{Accepted}
 use Rattle.control.proofs.Judging.{accepted-plan}
 use Rattle.decoder.specs.State.{fitRing}
-use Rattle.ears.specs.Both.{twoFrames}
+use Rattle.ears.specs.Both.{Shared, twoFrames, judgedWhere, earJudged}
+use Rattle.ears.specs.InPlace.{stateOf}
 use Rattle.ears.specs.Required.{Ready}
 use Rattle.ears.specs.declared.frame.Ear.{Ear}
 
@@ -49,23 +50,23 @@ module _ (r : Registers) (nums dens : List Float) (side : SideInfo) (own : List 
       go false q false f e = let z : _≡_ {A = ℕ} 0 1 = cc in absurd (omega arith)
 
 -- an accepted ear is ready to be carried out
-pub ready : (ear : Ear) (nums dens own buffer xs ys : List Float) (side : SideInfo) (plan : Plan) → ((k : ℕ) → length buffer ≡ 2 * k → length own ≡ k) →
-    length xs ≡ 1080 → length ys ≡ 1080 →
-    judgedWith (ear .registers) nums dens side (twoFrames (length buffer)) own (fitRing (ear .registers) (ear .«block_start_index»)) ≡ Accepted plan →
-    Ready ear nums dens own buffer plan xs ys
-ready ear nums dens own buffer xs ys side plan half x y e = go (fitRing r (ear .«block_start_index»)) refl e
+pub ready : (s : Shared) (ear : Ear) (own buffer xs ys : List Float) (plan : Plan) → s .count ≡ length buffer →
+    ((k : ℕ) → length buffer ≡ 2 * k → length own ≡ k) → length xs ≡ 1080 → length ys ≡ 1080 →
+    earJudged s (stateOf ear [] []) (ear .pitch) own ≡ Accepted plan → Ready ear (s .numerators) (s .denominators) own buffer plan xs ys
+ready s ear own buffer xs ys plan n half x y e = go (s .alike) (fitRing (ear .registers) (ear .«block_start_index»)) refl e
   where
-    r : Registers
-    r = ear .registers
+    side : SideInfo
+    side = record { pitch = ear .pitch; nbits = s .nbits }
 
-    go : (k : Configured) → fitRing (ear .registers) (ear .«block_start_index») ≡ k →
-        judgedWith (ear .registers) nums dens side (twoFrames (length buffer)) own k ≡ Accepted plan → Ready ear nums dens own buffer plan xs ys
-    go (Refused answer) f a = let z : _≡_ {A = ℕ} 0 1 = cc in absurd (omega arith)
-    go (Config c) f a =
-        let n : length buffer ≡ 2 * c .nf = accepted-count (ear .registers) nums dens side own (length buffer) c plan a in
-        let twice : length buffer ≡ 2 * length own = omega (arith, half (c .nf) n) in
-        let verdict : judged (ear .registers) (fitRing (ear .registers) (ear .«block_start_index»)) nums dens side own ≡ Accepted plan =
-        rw f (sym (as-single (ear .registers) nums dens side own (length buffer) (Config c) twice) ∙ a) in
-        let found = accepted-plan (ear .registers) (fitRing (ear .registers) (ear .«block_start_index»)) nums dens side own plan verdict .0 in
+    go : (b : Bool) (k : Configured) → fitRing (ear .registers) (ear .«block_start_index») ≡ k →
+        judgedWhere b s (ear .registers) k (ear .pitch) own ≡ Accepted plan → Ready ear (s .numerators) (s .denominators) own buffer plan xs ys
+    go false k f a = let z : _≡_ {A = ℕ} 0 1 = cc in absurd (omega arith)
+    go true (Refused answer) f a = let z : _≡_ {A = ℕ} 0 1 = cc in absurd (omega arith)
+    go true (Config c) f a =
+        let m : s .count ≡ 2 * c .nf = accepted-count (ear .registers) (s .numerators) (s .denominators) side own (s .count) c plan a in
+        let twice : s .count ≡ 2 * length own = omega (arith, half (c .nf) (sym n ∙ m)) in
+        let verdict : judged (ear .registers) (fitRing (ear .registers) (ear .«block_start_index»)) (s .numerators) (s .denominators) side own ≡ Accepted plan =
+        rw f (sym (as-single (ear .registers) (s .numerators) (s .denominators) side own (s .count) (Config c) twice) ∙ a) in
+        let found = accepted-plan (ear .registers) (fitRing (ear .registers) (ear .«block_start_index»)) (s .numerators) (s .denominators) side own plan verdict .0 in
         let same : plan .config ≡ c = cc in
-        record { judged = record { side = side; verdict = verdict }; count = rw same n; inputs = x; outputs = y }
+        record { judged = record { side = side; verdict = verdict }; count = rw same (sym n ∙ m); inputs = x; outputs = y }

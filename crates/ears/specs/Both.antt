@@ -7,13 +7,14 @@ use lib.Ieee.{Float}
 use lib.ListN.{length}
 use Rattle.rates.specs.declared.answer.Answer.the-variants.{EarsDiffer}
 use Rattle.rates.specs.declared.config.Lc3Config.{Lc3Config}
+use Rattle.rates.specs.declared.config.Configured.{Configured}
 use Rattle.lag.specs.declared.pitch.PitchRecord.{PitchRecord}
 use Rattle.control.specs.Judge.{judgedWith}
 use Rattle.control.specs.declared.registers.Registers.{Registers}
-use Rattle.control.specs.declared.judge.SideInfo.{SideInfo}
 use Rattle.control.specs.declared.judge.Verdict.{Verdict}
+use Rattle.control.specs.declared.judge.Verdict.the-variants.{Refused}
 use Rattle.decoder.specs.State.{fitDecoder}
-use Rattle.decoder.specs.Frame.{framedAs, framedWith}
+use Rattle.decoder.specs.Frame.{framedWith}
 use Rattle.decoder.specs.declared.state.Decoder.{Decoder}
 use Rattle.decoder.specs.declared.frame.Framed.{Framed}
 use Rattle.ears.specs.Turns.{lefts, rights, inTurn}
@@ -34,19 +35,18 @@ namedAlike l r = eqb (l .rate) (r .rate) && eqb (l .duration) (r .duration)
 abbrev pub twoFrames : ℕ → Lc3Config → Bool
 twoFrames count c = eqb count (2 * c .nf)
 
--- the verdict on an ear: a single decoder's, but that 5 goes by the buffer
+-- the verdict on an ear: 13 comes first; then it is a single decoder's, but that 5 goes by the buffer
+abbrev pub judgedWhere : Bool → Shared → Registers → Configured → PitchRecord → List Float → Verdict
+judgedWhere false s r fitted pitch own = Refused EarsDiffer
+judgedWhere true s r fitted pitch own =
+    judgedWith r (s .numerators) (s .denominators) (record { pitch = pitch; nbits = s .nbits }) (twoFrames (s .count)) own fitted
+
 abbrev pub earJudged : Shared → Decoder → PitchRecord → List Float → Verdict
-earJudged s d pitch own =
-    judgedWith (d .registers) (s .numerators) (s .denominators) (record { pitch = pitch; nbits = s .nbits }) (twoFrames (s .count)) own (fitDecoder d)
+earJudged s d pitch own = judgedWhere (s .alike) s (d .registers) (fitDecoder d) pitch own
 
--- 13 comes first, for both
-abbrev pub earWhere : Bool → Shared → Decoder → PitchRecord → List Float → Framed × List Float
-earWhere false s d pitch own = (framedAs EarsDiffer d, own)
-earWhere true s d pitch own = framedWith d (s .numerators) (s .denominators) own (earJudged s d pitch own)
-
--- an ear's frame: what it gives back, and the ear's samples at exit
+-- an ear's frame is a single decoder's by that verdict: what it gives back, and the ear's samples at exit
 unfoldable pub earFramed : Shared → Decoder → PitchRecord → List Float → Framed × List Float
-earFramed s d pitch own = earWhere (s .alike) s d pitch own
+earFramed s d pitch own = framedWith d (s .numerators) (s .denominators) own (earJudged s d pitch own)
 
 abbrev pub sharedBy : Decoder → Decoder → List Float → List Float → ℕ → List Float → Shared
 sharedBy l r numerators denominators nbits buffer = record {

@@ -60,92 +60,78 @@ fn both_inactive(left: Plan, right: Plan) -> bool
     false
 }
 
-// The frames of both ears.
+// The frames of both ears. x is an ear's ring of inputs, y that of its outputs, num and den are the lent rows.
 pub(crate) fn carry_both(
     left: Ear,
-    left_inputs: &mut [f32],
-    left_outputs: &mut [f32],
-    left_plan: Plan,
+    lx: &mut [f32],
+    ly: &mut [f32],
+    lp: Plan,
     right: Ear,
-    right_inputs: &mut [f32],
-    right_outputs: &mut [f32],
-    right_plan: Plan,
-    numerators: &[f32],
-    denominators: &[f32],
+    rx: &mut [f32],
+    ry: &mut [f32],
+    rp: Plan,
+    num: &[f32],
+    den: &[f32],
     samples: &mut [f32],
 ) -> BothFramed
-    requires { ⌜ Ready left (now numerators) (now denominators) (lefts (now samples)) (now samples) «left_plan» (now «left_inputs») (now «left_outputs») × Ready right (now numerators) (now denominators) (rights (now samples)) (now samples) «right_plan» (now «right_inputs») (now «right_outputs») ⌝ }
-    ensures { λ r. ⌜ (r, now («left_inputs» .exit), now («left_outputs» .exit), now («right_inputs» .exit), now («right_outputs» .exit), now (samples .exit)) ≡ bothApart (bothOf (done (accepted (stateOf left (now («left_inputs» .entry)) (now («left_outputs» .entry))) «left_plan» (now (numerators .entry)) (now (denominators .entry)) (lefts (now (samples .entry))))) (done (accepted (stateOf right (now («right_inputs» .entry)) (now («right_outputs» .entry))) «right_plan» (now (numerators .entry)) (now (denominators .entry)) (rights (now (samples .entry)))))) ⌝ }
+    requires { ⌜ Ready left (now num) (now den) (lefts (now samples)) (now samples) lp (now lx) (now ly) × Ready right (now num) (now den) (rights (now samples)) (now samples) rp (now rx) (now ry) ⌝ }
+    ensures { λ r. ⌜ (r, now (lx .exit), now (ly .exit), now (rx .exit), now (ry .exit), now (samples .exit)) ≡ bothApart (bothOf (done (accepted (stateOf left (now (lx .entry)) (now (ly .entry))) lp (now (num .entry)) (now (den .entry)) (lefts (now (samples .entry))))) (done (accepted (stateOf right (now (rx .entry)) (now (ry .entry))) rp (now (num .entry)) (now (den .entry)) (rights (now (samples .entry)))))) ⌝ }
 {
-    let nf = left_plan.config.nf;
+    let nf = lp.config.nf;
     let l = left.block_start_index;
     let r = right.block_start_index;
-    part(samples, nf, left_inputs, l, right_inputs, r);
+    part(samples, nf, lx, l, rx, r);
     let both = BothFramed {
-        left: carry_ear(
-            left,
-            left_inputs,
-            left_outputs,
-            left_plan,
-            numerators,
-            denominators,
-        ),
-        right: carry_ear(
-            right,
-            right_inputs,
-            right_outputs,
-            right_plan,
-            numerators,
-            denominators,
-        ),
+        left: carry_ear(left, lx, ly, lp, num, den),
+        right: carry_ear(right, rx, ry, rp, num, den),
     };
-    if both_inactive(left_plan, right_plan) {
+    if both_inactive(lp, rp) {
         return both;
     }
-    join(samples, nf, left_outputs, l, right_outputs, r);
+    join(samples, nf, ly, l, ry, r);
     both
 }
 
 // The left ear's frame alone. The samples of the other ear are put back as they were.
 pub(crate) fn carry_left(
     ear: Ear,
-    inputs: &mut [f32],
-    outputs: &mut [f32],
+    x: &mut [f32],
+    y: &mut [f32],
     plan: Plan,
-    numerators: &[f32],
-    denominators: &[f32],
+    num: &[f32],
+    den: &[f32],
     samples: &mut [f32],
 ) -> FramedInPlace
-    requires { ⌜ Ready ear (now numerators) (now denominators) (lefts (now samples)) (now samples) plan (now inputs) (now outputs) ⌝ }
-    ensures { λ r. ⌜ (r, now (inputs .exit), now (outputs .exit), now (samples .exit)) ≡ leftApart (done (accepted (stateOf ear (now (inputs .entry)) (now (outputs .entry))) plan (now (numerators .entry)) (now (denominators .entry)) (lefts (now (samples .entry))))) (rights (now (samples .entry))) ⌝ }
+    requires { ⌜ Ready ear (now num) (now den) (lefts (now samples)) (now samples) plan (now x) (now y) ⌝ }
+    ensures { λ r. ⌜ (r, now (x .exit), now (y .exit), now (samples .exit)) ≡ leftApart (done (accepted (stateOf ear (now (x .entry)) (now (y .entry))) plan (now (num .entry)) (now (den .entry)) (lefts (now (samples .entry))))) (rights (now (samples .entry))) ⌝ }
 {
     let nf = plan.config.nf;
     let start = ear.block_start_index;
     let mut others = [0.0; 480];
-    part(samples, nf, inputs, start, &mut others, 0);
-    let framed = carry_ear(ear, inputs, outputs, plan, numerators, denominators);
-    join(samples, nf, outputs, start, &others, 0);
+    part(samples, nf, x, start, &mut others, 0);
+    let framed = carry_ear(ear, x, y, plan, num, den);
+    join(samples, nf, y, start, &others, 0);
     framed
 }
 
 // The right ear's.
 pub(crate) fn carry_right(
     ear: Ear,
-    inputs: &mut [f32],
-    outputs: &mut [f32],
+    x: &mut [f32],
+    y: &mut [f32],
     plan: Plan,
-    numerators: &[f32],
-    denominators: &[f32],
+    num: &[f32],
+    den: &[f32],
     samples: &mut [f32],
 ) -> FramedInPlace
-    requires { ⌜ Ready ear (now numerators) (now denominators) (rights (now samples)) (now samples) plan (now inputs) (now outputs) ⌝ }
-    ensures { λ r. ⌜ (r, now (inputs .exit), now (outputs .exit), now (samples .exit)) ≡ rightApart (lefts (now (samples .entry))) (done (accepted (stateOf ear (now (inputs .entry)) (now (outputs .entry))) plan (now (numerators .entry)) (now (denominators .entry)) (rights (now (samples .entry))))) ⌝ }
+    requires { ⌜ Ready ear (now num) (now den) (rights (now samples)) (now samples) plan (now x) (now y) ⌝ }
+    ensures { λ r. ⌜ (r, now (x .exit), now (y .exit), now (samples .exit)) ≡ rightApart (lefts (now (samples .entry))) (done (accepted (stateOf ear (now (x .entry)) (now (y .entry))) plan (now (num .entry)) (now (den .entry)) (rights (now (samples .entry))))) ⌝ }
 {
     let nf = plan.config.nf;
     let start = ear.block_start_index;
     let mut others = [0.0; 480];
-    part(samples, nf, &mut others, 0, inputs, start);
-    let framed = carry_ear(ear, inputs, outputs, plan, numerators, denominators);
-    join(samples, nf, &others, 0, outputs, start);
+    part(samples, nf, &mut others, 0, x, start);
+    let framed = carry_ear(ear, x, y, plan, num, den);
+    join(samples, nf, &others, 0, y, start);
     framed
 }

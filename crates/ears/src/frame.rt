@@ -1,12 +1,10 @@
 // A frame of both ears.
-use crate::buffer::ears_in_range;
 use crate::carry::carry_both;
 use crate::carry::carry_left;
 use crate::carry::carry_right;
-use crate::judge::judge_ear;
-use crate::judge::named_alike;
+use crate::judge::Verdicts;
+use crate::judge::judge_both;
 use control::judge::Verdict;
-use control::lent::set_finite;
 use control::registers::Registers;
 use decoder::frame::FramedInPlace;
 use decoder::frame::refused;
@@ -41,66 +39,52 @@ fn refused_ear(answer: Answer, ear: Ear) -> FramedInPlace
     refused(answer, registers, ear.block_start_index)
 }
 
-// What the verdicts say: a refused ear keeps its state and its samples while the other goes on.
+// What the verdicts say: a refused ear keeps its state and its samples while the other goes on. x is an ear's ring of
+// inputs, y that of its outputs, num and den are the lent rows.
 fn carry_verdicts(
     left: Ear,
-    left_inputs: &mut [f32],
-    left_outputs: &mut [f32],
-    left_verdict: Verdict,
+    lx: &mut [f32],
+    ly: &mut [f32],
     right: Ear,
-    right_inputs: &mut [f32],
-    right_outputs: &mut [f32],
-    right_verdict: Verdict,
-    numerators: &[f32],
-    denominators: &[f32],
+    rx: &mut [f32],
+    ry: &mut [f32],
+    verdicts: Verdicts,
+    num: &[f32],
+    den: &[f32],
     samples: &mut [f32],
 ) -> BothFramed
-    requires { ⌜ Led left (now numerators) (now denominators) (lefts (now samples)) (now samples) «left_verdict» (now «left_inputs») (now «left_outputs») × Led right (now numerators) (now denominators) (rights (now samples)) (now samples) «right_verdict» (now «right_inputs») (now «right_outputs») ⌝ }
-    ensures { λ r. ⌜ (r, now («left_inputs» .exit), now («left_outputs» .exit), now («right_inputs» .exit), now («right_outputs» .exit), now (samples .exit)) ≡ bothApart (bothOf (framedWith (stateOf left (now («left_inputs» .entry)) (now («left_outputs» .entry))) (now (numerators .entry)) (now (denominators .entry)) (lefts (now (samples .entry))) «left_verdict») (framedWith (stateOf right (now («right_inputs» .entry)) (now («right_outputs» .entry))) (now (numerators .entry)) (now (denominators .entry)) (rights (now (samples .entry))) «right_verdict»)) ⌝ }
+    requires { ⌜ Led left (now num) (now den) (lefts (now samples)) (now samples) (verdicts .left) (now lx) (now ly) × Led right (now num) (now den) (rights (now samples)) (now samples) (verdicts .right) (now rx) (now ry) ⌝ }
+    ensures { λ r. ⌜ (r, now (lx .exit), now (ly .exit), now (rx .exit), now (ry .exit), now (samples .exit)) ≡ bothApart (bothOf (framedWith (stateOf left (now (lx .entry)) (now (ly .entry))) (now (num .entry)) (now (den .entry)) (lefts (now (samples .entry))) (verdicts .left)) (framedWith (stateOf right (now (rx .entry)) (now (ry .entry))) (now (num .entry)) (now (den .entry)) (rights (now (samples .entry))) (verdicts .right))) ⌝ }
 {
+    let left_verdict = verdicts.left;
+    let right_verdict = verdicts.right;
     match left_verdict {
-        Verdict::Refused(left_answer) => match right_verdict {
-            Verdict::Refused(right_answer) => BothFramed {
-                left: refused_ear(left_answer, left),
-                right: refused_ear(right_answer, right),
+        Verdict::Refused(l) => match right_verdict {
+            Verdict::Refused(r) => BothFramed {
+                left: refused_ear(l, left),
+                right: refused_ear(r, right),
             },
             Verdict::Accepted(plan) => BothFramed {
-                left: refused_ear(left_answer, left),
-                right: carry_right(
-                    right,
-                    right_inputs,
-                    right_outputs,
-                    plan,
-                    numerators,
-                    denominators,
-                    samples,
-                ),
+                left: refused_ear(l, left),
+                right: carry_right(right, rx, ry, plan, num, den, samples),
             },
         },
-        Verdict::Accepted(left_plan) => match right_verdict {
-            Verdict::Refused(right_answer) => BothFramed {
-                left: carry_left(
-                    left,
-                    left_inputs,
-                    left_outputs,
-                    left_plan,
-                    numerators,
-                    denominators,
-                    samples,
-                ),
-                right: refused_ear(right_answer, right),
+        Verdict::Accepted(lp) => match right_verdict {
+            Verdict::Refused(r) => BothFramed {
+                left: carry_left(left, lx, ly, lp, num, den, samples),
+                right: refused_ear(r, right),
             },
-            Verdict::Accepted(right_plan) => carry_both(
+            Verdict::Accepted(rp) => carry_both(
                 left,
-                left_inputs,
-                left_outputs,
-                left_plan,
+                lx,
+                ly,
+                lp,
                 right,
-                right_inputs,
-                right_outputs,
-                right_plan,
-                numerators,
-                denominators,
+                rx,
+                ry,
+                rp,
+                num,
+                den,
                 samples,
             ),
         },
@@ -124,44 +108,15 @@ pub fn frame_both(
 ) -> BothFramed
     ensures { λ r. ⌜ (r, now («left_inputs» .exit), now («left_outputs» .exit), now («right_inputs» .exit), now («right_outputs» .exit), now (samples .exit)) ≡ bothInPlace left (now («left_inputs» .entry)) (now («left_outputs» .entry)) right (now («right_inputs» .entry)) (now («right_outputs» .entry)) (now (numerators .entry)) (now (denominators .entry)) nbits (now (samples .entry)) ⌝ }
 {
-    let left_registers = left.registers;
-    let right_registers = right.registers;
-    if !named_alike(left_registers, right_registers) {
-        return BothFramed {
-            left: refused_ear(Answer::EarsDiffer, left),
-            right: refused_ear(Answer::EarsDiffer, right),
-        };
-    }
-    let finite = set_finite(numerators, denominators);
-    let ranged = ears_in_range(samples);
-    let count = samples.len();
-    let l = judge_ear(
-        left,
-        numerators,
-        denominators,
-        nbits,
-        finite,
-        count,
-        ranged.left,
-    );
-    let r = judge_ear(
-        right,
-        numerators,
-        denominators,
-        nbits,
-        finite,
-        count,
-        ranged.right,
-    );
+    let verdicts = judge_both(left, right, numerators, denominators, nbits, samples);
     carry_verdicts(
         left,
         left_inputs,
         left_outputs,
-        l,
         right,
         right_inputs,
         right_outputs,
-        r,
+        verdicts,
         numerators,
         denominators,
         samples,

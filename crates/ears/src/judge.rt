@@ -1,16 +1,20 @@
 // The verdicts on the ears.
+use crate::buffer::ears_in_range;
 use crate::frame::Ear;
 use control::judge::SideInfo;
 use control::judge::Tested;
 use control::judge::Verdict;
 use control::judge::judge_tested;
+use control::lent::set_finite;
 use control::registers::Registers;
 use decoder::fitness::fit_ring;
+use rates::answer::Answer;
 use rates::config::Configured;
 ghost use mathlib.Core.Path.{_≡_};
 ghost use Rattle.control.specs.Judge.{judgedBy, countedBy};
 ghost use Rattle.decoder.specs.State.{fitRing};
 ghost use Rattle.ears.specs.Both.{namedAlike, twoFrames};
+ghost use Rattle.ears.specs.InPlace.{bothJudged};
 
 // Whether both states name one rate and one duration, fit or not.
 pub(crate) fn named_alike(left: Registers, right: Registers) -> bool
@@ -61,4 +65,54 @@ pub(crate) fn judge_ear(
         ranged,
     };
     judge_tested(registers, fitted, numerators, denominators, side, tested)
+}
+
+// The verdicts on both ears.
+pub struct Verdicts {
+    pub left: Verdict,
+    pub right: Verdict,
+}
+
+// 13 for both comes first; then each ear is judged by itself. The entries of the set are looked at once for both.
+pub(crate) fn judge_both(
+    left: Ear,
+    right: Ear,
+    numerators: &[f32],
+    denominators: &[f32],
+    nbits: u32,
+    samples: &[f32],
+) -> Verdicts
+    ensures { λ r. ⌜ r ≡ bothJudged left right (now (numerators .entry)) (now (denominators .entry)) nbits (now (samples .entry)) ⌝ }
+{
+    let left_registers = left.registers;
+    let right_registers = right.registers;
+    if !named_alike(left_registers, right_registers) {
+        return Verdicts {
+            left: Verdict::Refused(Answer::EarsDiffer),
+            right: Verdict::Refused(Answer::EarsDiffer),
+        };
+    }
+    let finite = set_finite(numerators, denominators);
+    let ranged = ears_in_range(samples);
+    let count = samples.len();
+    Verdicts {
+        left: judge_ear(
+            left,
+            numerators,
+            denominators,
+            nbits,
+            finite,
+            count,
+            ranged.left,
+        ),
+        right: judge_ear(
+            right,
+            numerators,
+            denominators,
+            nbits,
+            finite,
+            count,
+            ranged.right,
+        ),
+    }
 }

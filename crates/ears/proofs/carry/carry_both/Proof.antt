@@ -43,10 +43,10 @@ returns-2 : tie.Need-returns-2
 returns-2 c =
     let s = c .before .before .before .before .before .before .before .before .before .before .before .before .before .before .before .before .before .before .before .before .before .before .before .before .before .before .before .before .before .before .before .before .before in
     let kept = c .before .before .before .before .before .before .before .before .before .before .before .before .before .before .before .before .before .before .before .before .before .before .part .ensures in
-    let e : s .args .left-plan .config .nf ≡ s .args .right-plan .config .nf = omega (arith, s .pre .0 .count, s .pre .1 .count) in
+    let e : s .args .lp .config .nf ≡ s .args .rp .config .nf = omega (arith, s .pre .0 .count, s .pre .1 .count) in
     rw (
       c .before .before .join .ensures
-          ∙ ap (λ (n : ℕ). inTurn (take (s .args .left-plan .config .nf) (drop (s .args .left .«block_start_index») (c .before .before .before .before .before .before .before .before .before .before .before .before .before .before .before .carry-ear .last .1 .1 .0)))
+          ∙ ap (λ (n : ℕ). inTurn (take (s .args .lp .config .nf) (drop (s .args .left .«block_start_index») (c .before .before .before .before .before .before .before .before .before .before .before .before .before .before .before .carry-ear .last .1 .1 .0)))
           (take n (drop (s .args .right .«block_start_index») (c .before .before .before .before .before .before .before .before .before .before .carry-ear2 .last .1 .1 .0)))) e,
       kept .0,
       kept .1,

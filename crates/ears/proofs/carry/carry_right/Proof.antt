@@ -4,7 +4,7 @@ use native.Mathlib.Omega.{arith}
 use lib.ListN.{length, replicate, length-replicate}
 use Rattle.floats.specs.Single.{0·0}
 use Rattle.ears.proofs.Buffers.{halves}
-use Rattle.ears.proofs.Carried.{fits, judged-there, right-alone}
+use Rattle.ears.proofs.Carried.{fits, judged-there, right-carried}
 use borrow.Author.Needs.{needs}
 use Rattle.ears.proofs.carry.carry_right.Statement.{statement}
 use Rattle.ears.proofs.carry.carry_right.Tie as tie
@@ -26,7 +26,7 @@ returns : tie.Need-returns
 returns c =
     let s = c .before .before .before .before .before .before .before .before .before .before .before .before .before .before .before .before .before .before .before .before .before .before .before in
     let kept = c .before .before .before .before .before .before .before .before .before .before .before .before .before .before .part .ensures in
-    right-alone (s .pre) _ _ _ _ _ _ (halves (s .args .samples .now) (s .args .plan .config .nf) (s .pre .count) .0) (kept .1) (kept .0)
+    right-carried (s .pre) _ _ _ _ _ _ (halves (s .args .samples .now) (s .args .plan .config .nf) (s .pre .count) .0) (kept .1) (kept .0)
     (c .before .before .before .before .before .before .before .before .carry-ear .ensures) _ (c .before .before .join .ensures)
 
 pub carry-right-spec : {M : Type 1} → statement M

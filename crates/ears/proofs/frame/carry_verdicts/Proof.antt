@@ -26,16 +26,16 @@ returns-2 : tie.Need-returns-2
 returns-2 c =
     let a = c .before .before .before .before .before .before .before .before .before .before .before .before .before .before .before .before .before .before .before .before .before .before .before .before .args in
     rw (c .before .before .before .before .before .before .before .before .before .before .before .before .before .before .before .left-verdict .given .1, c .before .before .before .before .before .before .before .before .before .before .before .before .right-verdict2 .given .1, c .before .before .before .before .before .before .before .before .before .before .refused-ear3 .ensures)
-    (beside-left _ (stateOf (a .left) (a .left-inputs .now) (a .left-outputs .now)) _
-    (done (accepted (stateOf (a .right) (a .right-inputs .now) (a .right-outputs .now)) _ (a .numerators .now) (a .denominators .now) (rights (a .samples .now))))
+    (beside-left _ (stateOf (a .left) (a .lx .now) (a .ly .now)) _
+    (done (accepted (stateOf (a .right) (a .rx .now) (a .ry .now)) _ (a .num .now) (a .den .now) (rights (a .samples .now))))
     (c .before .before .before .before .before .before .carry-right .ensures))
 
 returns-3 : tie.Need-returns-3
 returns-3 c =
     let a = c .before .before .before .before .before .before .before .before .before .before .before .before .before .before .before .before .before .before .before .before .before .before .before .before .args in
     rw (c .before .before .before .before .before .before .before .before .before .before .before .before .before .before .before .left-verdict2 .given .1, c .before .before .before .before .before .before .before .before .before .before .before .before .right-verdict3 .given .1, c .refused-ear4 .ensures)
-    (beside-right _ (stateOf (a .right) (a .right-inputs .now) (a .right-outputs .now)) _
-    (done (accepted (stateOf (a .left) (a .left-inputs .now) (a .left-outputs .now)) _ (a .numerators .now) (a .denominators .now) (lefts (a .samples .now))))
+    (beside-right _ (stateOf (a .right) (a .rx .now) (a .ry .now)) _
+    (done (accepted (stateOf (a .left) (a .lx .now) (a .ly .now)) _ (a .num .now) (a .den .now) (lefts (a .samples .now))))
     (c .before .before .before .before .before .before .before .carry-left .ensures))
 
 returns-4 : tie.Need-returns-4

@@ -1,0 +1,6 @@
+-- The laws of two ears, low to high.
+pub mod AsOne
+pub mod Interference
+pub mod EachEar
+pub mod OneCalls
+pub mod Settling
