@@ -16,14 +16,15 @@ use Rattle.control.specs.declared.judge.SideInfo.{SideInfo}
 use Rattle.decoder.specs.State.{cleared, startedWith, started, fitRing, withBlock}
 use Rattle.decoder.specs.Frame.{lostWith, lostFrom}
 use Rattle.decoder.specs.InPlace.{joined, apart, allApart, framedInPlace, lostInPlace}
+use Rattle.decoder.specs.declared.state.Decoder.{Decoder}
 use Rattle.decoder.specs.declared.state.Started.{Started}
 use Rattle.decoder.specs.declared.frame.Framed.{Framed}
 use Rattle.decoder.specs.declared.frame.FramedInPlace.{FramedInPlace}
 use Rattle.settling.specs.Calls.{Given, framedBy}
 use Rattle.c_arrays.specs.Words.{whereDone}
 use Rattle.c_arrays.specs.Registers.{registersFrom, readRegisters, keptOf}
-use Rattle.nabiteke.specs.DecoderArrays.{DecoderArrays, arrays, readDecoder, numbersOf, Fits32}
-use Rattle.nabiteke.specs.DecoderCalls.{handed, frameCall, handedNumbers, lostCall}
+use Rattle.nabiteke.specs.DecoderArrays.{DecoderArrays, arrays, readDecoder, numbersOf, writtenDecoder, Fits32}
+use Rattle.nabiteke.specs.DecoderCalls.{frameCall, handedNumbers, lostCall}
 use Rattle.nabiteke.proofs.DecoderFrames.{Outcome, refusal, success, outcome}
 
 -- a start gives a state that can be written
@@ -34,6 +35,22 @@ started-fits rate duration s e = rw e (go (configOf rate duration))
     go : (k : Configured) → Fits32 (startedWith rate duration k .decoder .registers) (startedWith rate duration k .decoder .«block_start_index»)
     go (Config c) = record { block = omega arith; whole = omega arith; quarter = omega arith }
     go (Refused a) = record { block = omega arith; whole = omega arith; quarter = omega arith }
+
+-- an outcome that is done can be written
+pub outcome-fits : {d : Decoder} {samples : List Float} {t : Framed × List Float} → Outcome d samples t → (st : FramedInPlace) → st ≡ apart (t .0) →
+    numberOf (st .answer) ≡ 0 → Fits32 (st .registers) (st .«block_start_index»)
+outcome-fits (refusal b h) st q none = absurd (h (sym (ap (λ (p : FramedInPlace). numberOf (p .answer)) q) ∙ none))
+outcome-fits (success next o k) st q none = rw q (k .fits)
+
+-- and is written; a refused one leaves the arrays
+module _ (a : DecoderArrays) (st : FramedInPlace) (xs ys : List Float) (word : ℕ) (ns : List ℕ) (ks : List Float) (w : word ≡ numberOf (st .answer))
+    (n : ns ≡ whereDone (st .answer) (numbersOf (st .registers) (st .«block_start_index»)) (a .numbers))
+    (k : ks ≡ whereDone (st .answer) (keptOf (st .registers)) (a .kept)) where
+  pub outcome-left : {samples : List Float} {t : Framed × List Float} → Outcome (readDecoder a) samples t →
+      st ≡ apart (t .0) → xs ≡ t .0 .decoder .«x_hat_mem» → ys ≡ t .0 .decoder .«x_hat_ltpf_mem» →
+      (word ≡ numberOf (t .0 .answer)) × (arrays ns ks xs ys ≡ whereDone (t .0 .answer) (writtenDecoder (t .0 .decoder)) a)
+  outcome-left (refusal b h) q x y = rw (w, n, k, q, x, y, ne-eqb (numberOf b) 0 h) (refl, refl)
+  outcome-left (success next o s) q x y = rw (w, n, k, q, x, y) (refl, refl)
 
 -- what a frame in place leaves
 abbrev Parts : Type 0
@@ -46,29 +63,18 @@ module _ (a : DecoderArrays) (f : Given) (r : Registers) (start : ℕ) (side : S
   e : _≡_ {A = Parts} (st, xs, ys, out) (allApart (framedBy (readDecoder a) f))
   e = rw (from, block, same-side) at made
 
-  -- the state of a frame that is done can be written
   pub frame-fits : numberOf (st .answer) ≡ 0 → Fits32 (st .registers) (st .«block_start_index»)
-  frame-fits none = go (framedBy (readDecoder a) f) (outcome (readDecoder a) f) e
-    where
-      go : (t : Framed × List Float) → Outcome (readDecoder a) (f .samples) t → _≡_ {A = Parts} (st, xs, ys, out) (allApart t) →
-          Fits32 (st .registers) (st .«block_start_index»)
-      go t (refusal b h) q = absurd (h (sym (ap (λ (p : Parts). numberOf (p .0 .answer)) q) ∙ none))
-      go t (success next o k) q = rw (ap (λ (p : Parts). p .0) q) (k .fits)
+  frame-fits = outcome-fits (outcome (readDecoder a) f) st (ap (λ (p : Parts). p .0) e)
 
-  -- and is written; a refused frame leaves the arrays and the samples
+  -- the arrays and the samples
   pub frame-left : (word : ℕ) (ns : List ℕ) (ks : List Float) → word ≡ numberOf (st .answer) →
       ns ≡ whereDone (st .answer) (numbersOf (st .registers) (st .«block_start_index»)) (a .numbers) →
       ks ≡ whereDone (st .answer) (keptOf (st .registers)) (a .kept) →
       (word, arrays ns ks xs ys, out) ≡ frameCall a f
   unfolding frameCall
-  frame-left word ns ks w n k = go (framedBy (readDecoder a) f) (outcome (readDecoder a) f) e
-    where
-      go : (t : Framed × List Float) → Outcome (readDecoder a) (f .samples) t → _≡_ {A = Parts} (st, xs, ys, out) (allApart t) →
-          (word, arrays ns ks xs ys, out) ≡ handed a t
-      go t (refusal b h) q =
-          rw (w, n, k, ap (λ (p : Parts). p .0) q, ap (λ (p : Parts). p .1) q, ap (λ (p : Parts). p .2) q, ap (λ (p : Parts). p .3) q, ne-eqb (numberOf b) 0 h)
-      go t (success next o s) q =
-          rw (w, n, k, ap (λ (p : Parts). p .0) q, ap (λ (p : Parts). p .1) q, ap (λ (p : Parts). p .2) q, ap (λ (p : Parts). p .3) q)
+  frame-left word ns ks w n k =
+      let left = outcome-left a st xs ys word ns ks w n k (outcome (readDecoder a) f) (ap (λ (p : Parts). p .0) e) (ap (λ (p : Parts). p .1) e) (ap (λ (p : Parts). p .2) e) in
+      rw (left .0, left .1, ap (λ (p : Parts). p .3) e)
 
 -- whether a state is fit is in its numbers alone
 same-fit : (n : List ℕ) (p q u v : List Float) (start : ℕ) → fitRing (registersFrom n p q) start ≡ fitRing (registersFrom n u v) start

@@ -2,6 +2,7 @@
 pub mod Folds
 pub mod DecoderFrames
 pub mod DecoderCalls
+pub mod EarCalls
 pub mod DecoderLaws
 pub mod EncoderFrames
 pub mod EncoderCalls
