@@ -17,6 +17,7 @@ use Rattle.filter.specs.Transition.{transitionOf}
 use Rattle.control.specs.Pitch.{isActive, lagFor}
 use Rattle.control.specs.declared.registers.Registers.{Registers}
 use Rattle.control.specs.declared.judge.SideInfo.{SideInfo}
+use Rattle.control.specs.declared.judge.Tested.{Tested}
 use Rattle.control.specs.declared.judge.Plan.{Plan}
 use Rattle.control.specs.declared.judge.Verdict.{Verdict}
 use Rattle.control.specs.declared.judge.Verdict.the-variants.{Refused, Accepted}
@@ -55,18 +56,31 @@ unfoldable pub judgedSide : Registers → Lc3Config → SideInfo → Verdict
 judgedSide r c side = unless (leb (side .nbits) 3200) TooManyBits (lagJudged r c side (lagFor (c .fs) (side .pitch)))
 
 -- 8, where nothing else refuses the frame
-abbrev pub rangeJudged : List Float → Verdict → Verdict
-rangeJudged samples (Refused answer) = Refused answer
-rangeJudged samples (Accepted plan) = unless (allInRange samples) SampleOutOfRange (Accepted plan)
+abbrev pub rangeBy : Bool → Verdict → Verdict
+rangeBy ranged (Refused answer) = Refused answer
+rangeBy ranged (Accepted plan) = unless ranged SampleOutOfRange (Accepted plan)
 
--- 9, which fitness decided; then 3, 4, 5; then 6 and 7, and last 8. What 5 asks of the number of samples is a test of the configuration
-abbrev pub judgedWith : Registers → List Float → List Float → SideInfo → (Lc3Config → Bool) → List Float → Configured → Verdict
-judgedWith r numerators denominators side counted samples (Configured.Refused answer) = Refused answer
-judgedWith r numerators denominators side counted samples (Configured.Config c) =
+abbrev pub rangeJudged : List Float → Verdict → Verdict
+rangeJudged samples v = rangeBy (allInRange samples) v
+
+-- 9, which fitness decided; then 3, 4, 5; then 6 and 7, and last 8: by what the tests of the lent entries and of the samples gave
+abbrev pub judgedBy : Registers → List Float → List Float → SideInfo → Tested → Configured → Verdict
+judgedBy r numerators denominators side tested (Configured.Refused answer) = Refused answer
+judgedBy r numerators denominators side tested (Configured.Config c) =
     unless (setCounts c numerators denominators) CoefficientCount
-    (unless (setFinite numerators denominators) CoefficientNotFinite
-    (unless (counted c) SampleCount
-    (rangeJudged samples (judgedSide r c side))))
+    (unless (tested .finite) CoefficientNotFinite
+    (unless (tested .counted) SampleCount
+    (rangeBy (tested .ranged) (judgedSide r c side))))
+
+-- a test of the number of samples that goes by the configuration, where there is one
+abbrev pub countedBy : (Lc3Config → Bool) → Configured → Bool
+countedBy test (Configured.Refused answer) = false
+countedBy test (Configured.Config c) = test c
+
+-- the verdict on samples whose number is to pass a test
+abbrev pub judgedWith : Registers → List Float → List Float → SideInfo → (Lc3Config → Bool) → List Float → Configured → Verdict
+judgedWith r numerators denominators side test samples fitted =
+    judgedBy r numerators denominators side (record { finite = setFinite numerators denominators; counted = countedBy test fitted; ranged = allInRange samples }) fitted
 
 -- the verdict on a frame given to registers whose fitness is known: the samples are to be as many as the configuration's frame
 unfoldable pub judged : Registers → Configured → List Float → List Float → SideInfo → List Float → Verdict

@@ -16,12 +16,21 @@ use rates::answer::Answer;
 use rates::config::Configured;
 use rates::config::Lc3Config;
 ghost use mathlib.Core.Path.{_≡_};
-ghost use Rattle.control.specs.Judge.{planOf, judgedSide, judged};
+ghost use lib.Dec.{eqb};
+ghost use Rattle.control.specs.Judge.{planOf, judgedSide, judgedBy, countedBy, judged};
 
 // What a frame brings beside its samples and its set: the pitch record, and the frame's bits.
 pub struct SideInfo {
     pub pitch: PitchRecord,
     pub nbits: u32,
+}
+
+// What the tests of a whole set and of all samples gave: whether each lent entry is finite, whether the samples are as
+// many as they are to be, and whether each is in range.
+pub struct Tested {
+    pub finite: bool,
+    pub counted: bool,
+    pub ranged: bool,
 }
 
 // What an accepted frame is to do.
@@ -73,7 +82,52 @@ pub fn judge_side(registers: Registers, config: Lc3Config, side: SideInfo) -> Ve
     Verdict::Accepted(plan_of(registers, config, side, lag))
 }
 
-// The verdict on a frame. `fitted` is what fitness gave: the configuration, or the refusal of an unfit state.
+// The verdict on a frame whose set and samples were tested before. `fitted` is what fitness gave: the configuration, or
+// the refusal of an unfit state.
+pub fn judge_tested(
+    registers: Registers,
+    fitted: Configured,
+    numerators: &[f32],
+    denominators: &[f32],
+    side: SideInfo,
+    tested: Tested,
+) -> Verdict
+    ensures { λ r. ⌜ r ≡ judgedBy registers (now (numerators .entry)) (now (denominators .entry)) side tested fitted ⌝ }
+{
+    let config = match fitted {
+        Configured::Config(config) => config,
+        Configured::Refused(answer) => return Verdict::Refused(answer),
+    };
+    if !set_counts(config, numerators, denominators) {
+        return Verdict::Refused(Answer::CoefficientCount);
+    }
+    if !tested.finite {
+        return Verdict::Refused(Answer::CoefficientNotFinite);
+    }
+    if !tested.counted {
+        return Verdict::Refused(Answer::SampleCount);
+    }
+    let plan = match judge_side(registers, config, side) {
+        Verdict::Accepted(plan) => plan,
+        Verdict::Refused(answer) => return Verdict::Refused(answer),
+    };
+    if !tested.ranged {
+        return Verdict::Refused(Answer::SampleOutOfRange);
+    }
+    Verdict::Accepted(plan)
+}
+
+// Whether there are as many samples as the configuration's frame has.
+fn is_frame(fitted: Configured, count: usize) -> bool
+    ensures { λ r. ⌜ r ≡ countedBy (λ c. eqb count (c .nf)) fitted ⌝ }
+{
+    match fitted {
+        Configured::Config(config) => count == config.nf,
+        Configured::Refused(_) => false,
+    }
+}
+
+// The verdict on a frame.
 pub fn judge(
     registers: Registers,
     fitted: Configured,
@@ -84,25 +138,10 @@ pub fn judge(
 ) -> Verdict
     ensures { λ r. ⌜ r ≡ judged registers fitted (now (numerators .entry)) (now (denominators .entry)) side (now (samples .entry)) ⌝ }
 {
-    let config = match fitted {
-        Configured::Config(config) => config,
-        Configured::Refused(answer) => return Verdict::Refused(answer),
+    let tested = Tested {
+        finite: set_finite(numerators, denominators),
+        counted: is_frame(fitted, samples.len()),
+        ranged: all_in_range(samples),
     };
-    if !set_counts(config, numerators, denominators) {
-        return Verdict::Refused(Answer::CoefficientCount);
-    }
-    if !set_finite(numerators, denominators) {
-        return Verdict::Refused(Answer::CoefficientNotFinite);
-    }
-    if samples.len() != config.nf {
-        return Verdict::Refused(Answer::SampleCount);
-    }
-    let plan = match judge_side(registers, config, side) {
-        Verdict::Accepted(plan) => plan,
-        Verdict::Refused(answer) => return Verdict::Refused(answer),
-    };
-    if !all_in_range(samples) {
-        return Verdict::Refused(Answer::SampleOutOfRange);
-    }
-    Verdict::Accepted(plan)
+    judge_tested(registers, fitted, numerators, denominators, side, tested)
 }

@@ -31,7 +31,7 @@ pub(crate) fn set_counts(config: Lc3Config, numerators: &[f32], denominators: &[
 }
 
 // Whether each entry, used or not, is a number.
-pub(crate) fn set_finite(numerators: &[f32], denominators: &[f32]) -> bool
+pub fn set_finite(numerators: &[f32], denominators: &[f32]) -> bool
     ensures { λ r. ⌜ r ≡ setFinite (now (numerators .entry)) (now (denominators .entry)) ⌝ }
 {
     if all_finite(numerators) {

@@ -2,7 +2,7 @@
 // after it.
 pub mod fitness;
 pub mod judge;
-mod lent;
+pub mod lent;
 pub mod next;
 mod pitch;
 pub mod registers;

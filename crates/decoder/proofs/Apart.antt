@@ -12,9 +12,9 @@ use Rattle.control.specs.declared.registers.Registers.{Registers}
 use Rattle.control.specs.declared.judge.Plan.{Plan}
 use Rattle.rings.specs.Ring.{nextBlock}
 use Rattle.decoder.specs.State.{fitRing}
-use Rattle.rings.specs.Samples.{filteredRings}
-use Rattle.decoder.specs.Frame.{tapsFor, accepted, done, lostWith, lostFrom}
-use Rattle.decoder.specs.InPlace.{joined, allApart, lostInPlace}
+use Rattle.rings.specs.Samples.{filteredBlock}
+use Rattle.decoder.specs.Frame.{tapsFor, accepted, lostWith, lostFrom}
+use Rattle.decoder.specs.InPlace.{joined, allApart, carriedBlock, lostInPlace}
 use Rattle.decoder.specs.declared.frame.Framed.{Framed}
 use Rattle.decoder.specs.declared.frame.FramedInPlace.{FramedInPlace}
 
@@ -40,25 +40,14 @@ lost-without-rings r start xs ys = go (fitRing r start)
     go (Refused a) = refl
     go (Config c) = refl
 
--- what `carry_out` makes, part by part, is the accepted frame
-pub carried : (r : Registers) (start : ℕ) (xs ys nums dens frame : List Float) (plan : Plan) (old new : Taps) (next : Registers) (block : ℕ)
-    (xs′ ys′ out : List Float) →
+-- what `carry_block` makes, part by part, is the accepted frame
+pub carried : (r : Registers) (start : ℕ) (xs ys nums dens : List Float) (plan : Plan) (old new : Taps) (next : Registers) (block : ℕ) (ys′ : List Float) →
     old ≡ keptTaps (plan .config .fs) r →
     new ≡ tapsFor plan nums dens →
-    (xs′, ys′, out) ≡ filteredRings (plan .transition) old new (plan .config) start xs ys frame →
+    ys′ ≡ filteredBlock (plan .transition) old new (plan .config) start xs ys →
     next ≡ nextRegisters r plan new →
     block ≡ nextBlock (plan .config .history) (plan .config .nf) start →
-    _≡_ {A = FramedInPlace × List Float × List Float × List Float}
-    (record { answer = Done; settled = next .settled; registers = next; «block_start_index» = block }, xs′, ys′, out)
-    (allApart (done (accepted (joined r start xs ys) plan nums dens frame)))
+    _≡_ {A = FramedInPlace × List Float} (record { answer = Done; settled = next .settled; registers = next; «block_start_index» = block }, ys′)
+    (carriedBlock r start xs ys plan nums dens)
 unfolding accepted
-carried r start xs ys nums dens frame plan old new next block xs′ ys′ out o n f m e =
-    rw (
-      m,
-      e,
-      ap (λ (p : List Float × List Float × List Float). p .0) f,
-      ap (λ (p : List Float × List Float × List Float). p .1) f,
-      ap (λ (p : List Float × List Float × List Float). p .2) f,
-      n,
-      o,
-    )
+carried r start xs ys nums dens plan old new next block ys′ o n f m e = rw (m, e, f, n, o)

@@ -57,8 +57,8 @@ module _ {r : Registers} {start : ℕ} {nums dens frame : List Float} {plan : Pl
   sizes = sized (plan .config) found
 
   -- the frame's block lies inside the used history
-  pub block-fits : (start + length frame ≤ plan .config .history) × (start + length frame ≤ 1080)
-  block-fits = omega (arith, block-inside (plan .config) start found block-fitting, checks .count, sizes .past-fits)
+  pub block-fits : (start + plan .config .nf ≤ plan .config .history) × (start + plan .config .nf ≤ 1080)
+  block-fits = omega (arith, block-inside (plan .config) start found block-fitting, sizes .past-fits)
 
   -- the lag fits, if the frame is active
   pub lag-fitting : lagFits (plan .config .fs) (plan .active) (plan .lag) ≡ true
@@ -73,7 +73,7 @@ module _ {r : Registers} {start : ℕ} {nums dens frame : List Float} {plan : Pl
 
   -- the frame can be filtered after the pasts of the rings
   pub filterable : (xs ys : List Float) → length xs ≡ 1080 → length ys ≡ 1080 →
-      Filterable (plan .transition) (keptTaps (plan .config .fs) r) (tapsFor plan nums dens) (plan .config) start xs ys frame
+      Filterable (plan .transition) (keptTaps (plan .config .fs) r) (tapsFor plan nums dens) (plan .config) start xs ys
   filterable xs ys x y = record {
     readable = rw (ap (λ (p : Plan). p .transition) planned)
         (readable (r .«ltpf_active_prev») (isActive (j .side .pitch)) (r .lag) (plan .lag) (keptTaps (plan .config .fs) r) (tapsFor plan nums dens) (plan .config .history)
@@ -86,7 +86,7 @@ module _ {r : Registers} {start : ℕ} {nums dens frame : List Float} {plan : Pl
     outputs = y;
     fade-least = sizes .fade-least;
     fade-most = sizes .fade-most;
-    rest = omega (arith, sizes .rest, checks .count);
-    twice = omega (arith, sizes .twice, checks .count);
-    line = omega (arith, sizes .line-fits, checks .count);
+    rest = sizes .rest;
+    twice = sizes .twice;
+    line = sizes .line-fits;
   }

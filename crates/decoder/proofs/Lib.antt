@@ -2,3 +2,4 @@
 pub mod RingFits
 pub mod Checks
 pub mod Apart
+pub mod TakenUp

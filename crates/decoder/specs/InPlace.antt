@@ -5,7 +5,9 @@ use lib.Ieee.{Float}
 use Rattle.rates.specs.declared.answer.Answer.{Answer}
 use Rattle.control.specs.declared.registers.Registers.{Registers}
 use Rattle.control.specs.declared.judge.SideInfo.{SideInfo}
-use Rattle.decoder.specs.Frame.{framed, lostFrom}
+use Rattle.control.specs.declared.judge.Plan.{Plan}
+use Rattle.rings.specs.Samples.{blockAt}
+use Rattle.decoder.specs.Frame.{accepted, done, framed, lostFrom}
 use Rattle.decoder.specs.declared.state.Decoder.{Decoder}
 use Rattle.decoder.specs.declared.frame.Framed.{Framed}
 use Rattle.decoder.specs.declared.frame.FramedInPlace.{FramedInPlace}
@@ -31,6 +33,12 @@ abbrev pub framedInPlace : Registers → ℕ → List Float → List Float → L
     FramedInPlace × List Float × List Float × List Float
 framedInPlace r start xs ys numerators denominators side samples =
     allApart (framed (joined r start xs ys) numerators denominators side samples)
+
+-- an accepted frame that stands in the ring of inputs already: what it gives back, and the ring of outputs
+abbrev pub carriedBlock : Registers → ℕ → List Float → List Float → Plan → List Float → List Float → FramedInPlace × List Float
+carriedBlock r start xs ys plan numerators denominators =
+    let f = done (accepted (joined r start xs ys) plan numerators denominators (blockAt (plan .config) start xs)) in
+    (apart (f .0), f .0 .decoder .«x_hat_ltpf_mem»)
 
 -- a loss mark, which asks for no ring
 abbrev pub lostInPlace : Registers → ℕ → FramedInPlace

@@ -21,7 +21,7 @@ fn block_fits(config: Lc3Config, start: usize) -> bool
 }
 
 // The configuration of fit registers and a block start that fits. Others are refused.
-pub(crate) fn fit_ring(registers: Registers, start: usize) -> Configured
+pub fn fit_ring(registers: Registers, start: usize) -> Configured
     ensures { λ r. ⌜ r ≡ fitRing registers start ⌝ }
 {
     let config = match fit_config(registers) {

@@ -29,7 +29,7 @@ pub struct FramedInPlace {
 }
 
 // A refused call: the same state, and its settled report.
-fn refused(answer: Answer, registers: Registers, block_start_index: usize) -> FramedInPlace
+pub fn refused(answer: Answer, registers: Registers, block_start_index: usize) -> FramedInPlace
     ensures { λ r. ⌜ r ≡ refusedAs answer registers «block_start_index» ⌝ }
 {
     let settled = registers.settled;

@@ -1,5 +1,6 @@
 -- Laws of the filter's definitions, for its proofs and for what is built above it.
 pub mod Growing
+pub mod OutputsLong
 pub mod Reading
 pub mod Alike
 pub mod Late

@@ -28,7 +28,7 @@ pub fn all_finite(s: &[f32]) -> bool
 }
 
 // Whether a sample is within ±1,048,576. A NaN is not.
-fn in_range(x: f32) -> bool
+pub fn in_range(x: f32) -> bool
     ensures { λ r. ⌜ r ≡ inRange x ⌝ }
 {
     if -1048576.0 <= x {

@@ -12,7 +12,7 @@ use lib.Seq.{drop-drop, drop-append-le, drop-append-add, length-take-le}
 use lib.Ieee.{Float}
 use Rattle.slices.specs.Slices.{stored, placed}
 use Rattle.rings.specs.Ring.{straight, nextBlock, newestEnd}
-use Rattle.slices.proofs.Stored.{placed-stored, length-placed, take-stored, drop-stored, stored-last, drop-take}
+use Rattle.slices.proofs.Stored.{placed-stored, length-placed, before-stored, take-stored, drop-stored, length-stored, stored-last, drop-take}
 use Rattle.rings.proofs.StraightLines.{length-straight}
 
 -- the line that `straighten` fills, part by part, from the ring and the frame
@@ -90,36 +90,47 @@ recently line line₁ line₂ ring frame history start s r n h e₁ e₂ =
       newest-past ring history start s r n,
     )
 
--- storing gives the past moved along by a frame
-pub past-moves-along : (ring frame : List Float) (history nf start : ℕ) →
-    length frame ≡ nf → start + nf ≤ history → history ≤ length ring →
-    straight (stored ring start frame) history (nextBlock history nf start) ≡ drop nf (straight ring history start ++ frame)
+-- what is left of the past after its oldest block: the newer blocks, in two parts of the ring
+left-over : (ring frame : List Float) (history nf start : ℕ) → start + nf ≤ history → history ≤ length ring →
+    drop nf (straight ring history start ++ frame) ≡ take (history - (start + nf)) (drop (start + nf) ring) ++ (take start ring ++ frame)
 unfolding straight
-past-moves-along ring frame history nf start e s h = go (eqb (start + nf) history) refl
+left-over ring frame history nf start s h =
+    rw (
+      append-assoc (take (history - start) (drop start ring)) (take start ring) frame,
+      drop-append-le nf (take (history - start) (drop start ring)) (take start ring ++ frame)
+          (simp (length-take, length-drop) (omega arith)),
+      part,
+    )
   where
-    end : start + length frame ≡ start + nf
-    end = omega arith
-
     part : drop nf (take (history - start) (drop start ring)) ≡ take (history - (start + nf)) (drop (start + nf) ring)
     part =
         let k : history - start ≡ nf + (history - (start + nf)) = omega arith in
         rw (k, ← drop-drop nf start ring) (drop-take nf (history - (start + nf)) (drop start ring) (simp length-drop (omega arith)))
 
-    moved : drop nf (take (history - start) (drop start ring) ++ take start ring ++ frame) ≡
-        take (history - (start + nf)) (drop (start + nf) ring) ++ (take start ring ++ frame)
-    moved =
-        rw (
-          append-assoc (take (history - start) (drop start ring)) (take start ring) frame,
-          drop-append-le nf (take (history - start) (drop start ring)) (take start ring ++ frame)
-              (simp (length-take, length-drop) (omega arith)),
-          part,
-        )
+module _ (ring frame : List Float) (history nf start : ℕ) (e : length frame ≡ nf) (s : start + nf ≤ history) (h : history ≤ length ring) where
+  end : start + length frame ≡ start + nf
+  end = omega arith
 
-    go : (b : Bool) → eqb (start + nf) history ≡ b →
-        straight (stored ring start frame) history (cond b 0 (start + nf)) ≡ drop nf (straight ring history start ++ frame)
-    go true p =
-        let all : start + nf ≡ history = eqb-true (start + nf) history p in
-        let none : history - (start + nf) ≡ 0 = omega arith in
-        rw (moved, none, append-nil, sub-zero) (take-stored ring frame start history (omega arith) h)
-    go false p =
-        rw (moved, take-stored ring frame start (start + nf) end (omega arith), drop-stored ring frame start (start + nf) end (omega arith))
+  -- storing gives the past moved along by a frame
+  pub past-moves-along : straight (stored ring start frame) history (nextBlock history nf start) ≡ drop nf (straight ring history start ++ frame)
+  unfolding straight
+  past-moves-along = go (eqb (start + nf) history) refl
+    where
+      go : (b : Bool) → eqb (start + nf) history ≡ b →
+          straight (stored ring start frame) history (cond b 0 (start + nf)) ≡ drop nf (straight ring history start ++ frame)
+      go true p =
+          let all : start + nf ≡ history = eqb-true (start + nf) history p in
+          let none : history - (start + nf) ≡ 0 = omega arith in
+          rw (left-over ring frame history nf start s h, none, append-nil, sub-zero) (take-stored ring frame start history (omega arith) h)
+      go false p =
+          rw (left-over ring frame history nf start s h, take-stored ring frame start (start + nf) end (omega arith), drop-stored ring frame start (start + nf) end (omega arith))
+
+  -- and takes the place of the oldest block alone
+  pub newer-stays : drop nf (straight (stored ring start frame) history start ++ frame) ≡ drop nf (straight ring history start ++ frame)
+  newer-stays =
+      rw (
+        left-over (stored ring start frame) frame history nf start s (omega (arith, length-stored ring frame start (start + nf) end (omega arith))),
+        left-over ring frame history nf start s h,
+        drop-stored ring frame start (start + nf) end (omega arith),
+        before-stored ring frame start (omega arith),
+      )

@@ -1,10 +1,10 @@
 -- The lines that a frame is filtered on: a straight past with the frame after it, of the inputs only the newest part.
 use Prim.Native.Nat.{ℕ, _+_, _-_, _≤_}
 use mathlib.Core.Path.{_≡_, sym, _∙_}
-use mathlib.Core.List.{List, _++_, append-nil}
+use mathlib.Core.List.{List, _++_}
 use native.Mathlib.Omega.{arith}
-use lib.ListN.{length, take, drop, length-append, length-take, length-drop, drop-of-length-le}
-use lib.Seq.{take-at, drop-at, drop-drop, take-all}
+use lib.ListN.{length, take, drop, length-append, length-take, length-drop}
+use lib.Seq.{take-at, drop-at, drop-drop, take-all, length-take-le}
 use lib.Ieee.{Float}
 use Rattle.rates.specs.declared.config.Lc3Config.{Lc3Config}
 use Rattle.slices.specs.Slices.{stored, placed}
@@ -14,17 +14,21 @@ use Rattle.filter.specs.Transition.{outputs}
 use Rattle.filter.specs.Blocks.{late}
 use Rattle.filter.specs.Required.{Lines}
 use Rattle.rings.specs.Required.{Filterable}
-use Rattle.rings.specs.Samples.{filtered}
+use Rattle.rings.specs.Samples.{filtered, blockAt}
 use Rattle.coefficients.specs.declared.Taps.{Taps}
 use Rattle.filter.specs.declared.transition.Transition.{Transition}
 use Rattle.filter.specs.declared.transition.Transition.the-variants.{Inactive}
+use Rattle.filter.proofs.OutputsLong.{outputs-long}
 use Rattle.filter.proofs.Late.{late-alike, outputs-inputs}
 
 pub length-straight : (ring : List Float) (history start : ℕ) → start ≤ history → history ≤ length ring → length (straight ring history start) ≡ history
 unfolding straight
 length-straight ring history start s h = simp (length-append, length-take, length-drop) (omega arith)
 
-module _ {t : Transition} {old new : Taps} {c : Lc3Config} {start : ℕ} {xs ys frame : List Float} (f : Filterable t old new c start xs ys frame) where
+module _ {t : Transition} {old new : Taps} {c : Lc3Config} {start : ℕ} {xs ys : List Float} (f : Filterable t old new c start xs ys) where
+  pub frame-long : length (blockAt c start xs) ≡ c .nf
+  frame-long = length-take-le (c .nf) (drop start xs) (simp length-drop (omega arith))
+
   past-x : length (straight xs (c .history) start) ≡ c .history
   past-x = length-straight xs (c .history) start (omega arith) (omega arith)
 
@@ -32,16 +36,17 @@ module _ {t : Transition} {old new : Taps} {c : Lc3Config} {start : ℕ} {xs ys 
   past-y = length-straight ys (c .history) start (omega arith) (omega arith)
 
   -- both lines reach to the end of the frame
-  line-x : length (straight xs (c .history) start ++ frame) ≡ c .history + length frame
-  line-x = length-append (straight xs (c .history) start) frame ∙ rw past-x
+  line-x : length (straight xs (c .history) start ++ blockAt c start xs) ≡ c .history + c .nf
+  line-x = length-append (straight xs (c .history) start) (blockAt c start xs) ∙ rw (past-x, frame-long)
 
-  line-y : length (straight ys (c .history) start ++ frame) ≡ c .history + length frame
-  line-y = length-append (straight ys (c .history) start) frame ∙ rw past-y
+  line-y : length (straight ys (c .history) start ++ blockAt c start xs) ≡ c .history + c .nf
+  line-y = length-append (straight ys (c .history) start) (blockAt c start xs) ∙ rw (past-y, frame-long)
 
-  recent-x : length (drop (c .history - 16) (straight xs (c .history) start ++ frame)) ≡ 16 + length frame
+  recent-x : length (drop (c .history - 16) (straight xs (c .history) start ++ blockAt c start xs)) ≡ 16 + c .nf
   recent-x = simp length-drop (omega (arith, line-x))
 
-  pub lines : Lines (c .fs .fade) (c .history) (drop (c .history - 16) (straight xs (c .history) start ++ frame)) (straight ys (c .history) start ++ frame)
+  pub lines : Lines (c .fs .fade) (c .history) (drop (c .history - 16) (straight xs (c .history) start ++ blockAt c start xs))
+      (straight ys (c .history) start ++ blockAt c start xs)
   lines =
       let e : c .history - 16 + 16 ≡ c .history = omega arith in
       record {
@@ -50,40 +55,47 @@ module _ {t : Transition} {old new : Taps} {c : Lc3Config} {start : ℕ} {xs ys 
         fade-most = f .fade-most;
         frame = omega (arith, recent-x);
         same = omega (arith, line-y, recent-x);
-        inputs = drop-at (straight ys (c .history) start) frame (c .history) past-y
-            ∙ sym (drop-drop 16 (c .history - 16) (straight xs (c .history) start ++ frame) ∙ rw e (drop-at (straight xs (c .history) start) frame (c .history) past-x));
+        inputs = drop-at (straight ys (c .history) start) (blockAt c start xs) (c .history) past-y
+            ∙ sym (drop-drop 16 (c .history - 16) (straight xs (c .history) start ++ blockAt c start xs)
+            ∙ rw e (drop-at (straight xs (c .history) start) (blockAt c start xs) (c .history) past-x));
       }
 
   -- the outputs of the frame are what lies after the past
   pub frame-outputs : (out : List Float) →
-      out ≡ outputs t old new (c .fs .fade) (late (c .history - 16) (drop (c .history - 16) (straight xs (c .history) start ++ frame)))
-      (take (c .history) (straight ys (c .history) start ++ frame)) →
-      drop (c .history) out ≡ filtered t old new c start xs ys frame
+      out ≡ outputs t old new (c .fs .fade) (late (c .history - 16) (drop (c .history - 16) (straight xs (c .history) start ++ blockAt c start xs)))
+      (take (c .history) (straight ys (c .history) start ++ blockAt c start xs)) →
+      drop (c .history) out ≡ filtered t old new c start xs ys (blockAt c start xs)
   unfolding filtered
   frame-outputs out e =
-      let x = straight xs (c .history) start ++ frame in
+      let x = straight xs (c .history) start ++ blockAt c start xs in
       rw (
         e,
-        take-at (straight ys (c .history) start) frame (c .history) past-y,
+        take-at (straight ys (c .history) start) (blockAt c start xs) (c .history) past-y,
         outputs-inputs (c .history - 16) (c .fs .fade) (c .history) (late (c .history - 16) (drop (c .history - 16) x)) x (straight ys (c .history) start)
             (omega (arith, past-y)) (late-alike (c .history - 16) x (omega (arith, line-x))) t old new (f .readable),
       )
 
+-- a frame has as many outputs as inputs
+pub filtered-long : {t : Transition} {old new : Taps} {c : Lc3Config} {start : ℕ} {xs ys : List Float} → Filterable t old new c start xs ys →
+    (frame : List Float) → length frame ≡ c .nf → length (filtered t old new c start xs ys frame) ≡ c .nf
+unfolding filtered
+filtered-long {t = t} {old = old} {new = new} {c = c} {start = start} {xs = xs} {ys = ys} f frame e =
+    let all : length (straight xs (c .history) start ++ frame) ≡ c .history + c .nf = length-append (straight xs (c .history) start) frame ∙ rw (past-x f, e) in
+    simp length-drop (rw (outputs-long t old new (c .fs .fade) (straight xs (c .history) start ++ frame) (straight ys (c .history) start) (omega (arith, past-y f, f .rest)), all) (omega arith))
+
 -- the first case leaves the frame as it is
-pub untouched : {old new : Taps} {c : Lc3Config} {start : ℕ} {xs ys frame : List Float} → Filterable Inactive old new c start xs ys frame →
+pub untouched : {old new : Taps} {c : Lc3Config} {start : ℕ} {xs ys : List Float} → Filterable Inactive old new c start xs ys → (frame : List Float) →
     frame ≡ filtered Inactive old new c start xs ys frame
 unfolding filtered outputs
-untouched {c = c} {start = start} {xs = xs} {ys = ys} {frame = frame} f =
+untouched {c = c} {start = start} {xs = xs} {ys = ys} f frame =
     let x = straight xs (c .history) start in
     let y = straight ys (c .history) start in
     let py : length y ≡ c .history = past-y f in
     rw (py, drop-at x frame (c .history) (past-x f), drop-at y frame (c .history) py)
 
--- the part of a line after its past, put over samples of the same number
-pub put-back : (samples out : List Float) (history : ℕ) → length out ≡ history + length samples →
-    placed samples 0 (take (length out - history) (drop history out)) ≡ drop history out
-unfolding stored
-put-back samples out history e =
-    let l : length (drop history out) ≡ length samples = simp length-drop (omega arith) in
-    let all = take-all (length out - history) (drop history out) (simp length-drop (omega arith)) in
-    rw (all, placed-stored samples (drop history out) 0 (omega arith), l, drop-of-length-le samples {i = 0 + length samples} (omega arith), append-nil)
+-- the part of a line after its past, stored as a frame
+pub stored-back : (ring out : List Float) (history start nf : ℕ) → length out ≡ history + nf → start + nf ≤ length ring →
+    placed ring start (take (length out - history) (drop history out)) ≡ stored ring start (drop history out)
+stored-back ring out history start nf e h =
+    let l : length (drop history out) ≡ nf = simp length-drop (omega arith) in
+    rw (take-all (length out - history) (drop history out) (simp length-drop (omega arith))) (placed-stored ring (drop history out) start (omega arith))

@@ -10,17 +10,17 @@ use Rattle.filter.specs.Required.{Readable}
 use Rattle.filter.specs.declared.transition.Transition.{Transition}
 use Rattle.rings.specs.Ring.{newestEnd}
 
--- what filtering after the pasts of two rings takes: the case's filters read inside the history, the rings hold it and have a place for the
+-- what filtering after the pasts of two rings takes: the case's filters read inside the history, the rings hold it and have a place for a
 -- frame, and the lines hold it and the frame
-pub record Filterable (t : Transition) (old new : Taps) (c : Lc3Config) (start : ℕ) (xs ys frame : List Float) : Type 0 where
+pub record Filterable (t : Transition) (old new : Taps) (c : Lc3Config) (start : ℕ) (xs ys : List Float) : Type 0 where
   pub readable : Readable t old new (c .history)
-  pub block : start + length frame ≤ c .history
+  pub block : start + c .nf ≤ c .history
   pub newest : 16 ≤ newestEnd (c .history) start
   pub past : c .history ≤ 1080
   pub inputs : length xs ≡ 1080
   pub outputs : length ys ≡ 1080
   pub fade-least : 8 ≤ c .fs .fade
   pub fade-most : c .fs .fade ≤ 120
-  pub rest : c .fs .fade + 8 ≤ length frame
-  pub twice : 2 * length frame ≤ c .history
-  pub line : c .history + length frame ≤ 1440
+  pub rest : c .fs .fade + 8 ≤ c .nf
+  pub twice : 2 * c .nf ≤ c .history
+  pub line : c .history + c .nf ≤ 1440

@@ -1,8 +1,8 @@
--- A frame filtered after the pasts that two rings hold, and stored into them.
+-- A frame filtered after the pasts that two rings hold.
 use Prim.Native.Nat.{ℕ}
 use mathlib.Core.List.{List, _++_}
 use lib.Ieee.{Float}
-use lib.ListN.{drop}
+use lib.ListN.{take, drop}
 use Rattle.slices.specs.Slices.{stored}
 use Rattle.rates.specs.declared.config.Lc3Config.{Lc3Config}
 use Rattle.coefficients.specs.declared.Taps.{Taps}
@@ -15,7 +15,10 @@ unfoldable pub filtered : Transition → Taps → Taps → Lc3Config → ℕ →
 filtered t old new c start xs ys frame =
     drop (c .history) (outputs t old new (c .fs .fade) (straight xs (c .history) start ++ frame) (straight ys (c .history) start))
 
--- both rings with the frame's inputs and outputs stored, and the outputs
-abbrev pub filteredRings : Transition → Taps → Taps → Lc3Config → ℕ → List Float → List Float → List Float → List Float × List Float × List Float
-filteredRings t old new c start xs ys frame =
-    (stored xs start frame, stored ys start (filtered t old new c start xs ys frame), filtered t old new c start xs ys frame)
+-- the frame that stands in a ring at a block start
+abbrev pub blockAt : Lc3Config → ℕ → List Float → List Float
+blockAt c start ring = take (c .nf) (drop start ring)
+
+-- the ring of outputs with those of the frame that stands in the ring of inputs
+abbrev pub filteredBlock : Transition → Taps → Taps → Lc3Config → ℕ → List Float → List Float → List Float
+filteredBlock t old new c start xs ys = stored ys start (filtered t old new c start xs ys (blockAt c start xs))

@@ -14,11 +14,9 @@ use Rattle.rates.specs.declared.config.Lc3Config.{Lc3Config}
 use Rattle.rates.proofs.Known.{both}
 use Rattle.lag.specs.declared.gain.Gain.{Gain}
 use Rattle.lag.specs.declared.rescale.Lag.{Lag}
-use Rattle.filter.specs.Transition.{transitionOf, outputs, caseActivated, caseDeactivated, casePitchKept, casePitchChanged}
+use Rattle.filter.specs.Transition.{transitionOf, outputs}
 use Rattle.coefficients.specs.declared.Taps.{Taps}
-use Rattle.filter.specs.declared.transition.Transition.{Transition}
-use Rattle.filter.specs.declared.transition.Transition.the-variants.{Inactive, Activated, Deactivated, ActiveNoPitchChange, ActivePitchChanged}
-use Rattle.filter.proofs.Growing.{length-grow}
+use Rattle.filter.proofs.OutputsLong.{outputs-long}
 use Rattle.control.specs.State.{lagFits}
 use Rattle.control.specs.Next.{nextRegisters}
 use Rattle.control.specs.declared.registers.Registers.{Registers}
@@ -61,15 +59,6 @@ planFor {c} d f = planWith (d .registers) c (f .active) (f .gain) (f .lag)
 -- the state after it, and its outputs
 abbrev pub admit : {c : Lc3Config} → Decoder → Admitted c → Decoder × List Float
 admit d f = accepted d (planFor d f) (f .numerators) (f .denominators) (f .samples)
-
--- the outputs, with their past, are as many as the inputs
-outputs-long : (t : Transition) (old new : Taps) (fade : ℕ) (x p : List Float) → length p + fade ≤ length x → length (outputs t old new fade x p) ≡ length x
-unfolding outputs caseActivated caseDeactivated casePitchKept casePitchChanged
-outputs-long Inactive old new fade x p h = simp (length-append, length-drop) (omega arith)
-outputs-long Activated old new fade x p h = simp length-grow (omega arith)
-outputs-long Deactivated old new fade x p h = simp (length-append, length-grow, length-drop) (omega arith)
-outputs-long ActiveNoPitchChange old new fade x p h = simp length-grow (omega arith)
-outputs-long ActivePitchChanged old new fade x p h = simp length-grow (omega arith)
 
 module _ {c : Lc3Config} {d : Decoder} (s : FitState c d) (f : Admitted c) where
   -- a ring with a frame stored holds the past moved along by it

@@ -2,7 +2,7 @@
 use Prim.Native.Nat.{ℕ, _+_, _≤_}
 use mathlib.Core.Path.{_≡_, refl, _∙_}
 use mathlib.Core.Bool.{Bool, true, false, cond}
-use mathlib.Core.List.{List, _++_, append-nil}
+use mathlib.Core.List.{List, _++_, append-assoc, append-nil}
 use native.Mathlib.Omega.{arith}
 use borrow.Author.Tests.{le-leb, leb-true}
 use lib.Dec.{leb}
@@ -33,6 +33,11 @@ module _ (l block : List Float) (start end : ℕ) (e : start + length block ≡ 
   pub length-stored : length (stored l start block) ≡ length l
   unfolding stored
   length-stored = simp (length-append, length-drop) (omega (arith, length-take-le start l (omega arith)))
+
+-- before the block the list is as it was
+pub before-stored : (l block : List Float) (start : ℕ) → start ≤ length l → take start (stored l start block) ≡ take start l
+unfolding stored
+before-stored l block start h = rw (append-assoc (take start l) block (drop (start + length block) l)) (take-at (take start l) _ start (length-take-le start l h))
 
 -- placed or not, a block changes no length
 pub length-placed : (l block : List Float) (at : ℕ) → length (placed l at block) ≡ length l

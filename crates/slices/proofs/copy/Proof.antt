@@ -1,30 +1,21 @@
 -- `copy` replaces one entry a turn.
-use Prim.Native.Nat.{ℕ, _+_, _-_, _≤_, _<_}
-use mathlib.Core.List.{List}
+use Prim.Native.Nat.{_-_, _≤_}
 use mathlib.Core.Path.{_≡_, _∙_}
-use native.Mathlib.Numerals.{add-one}
 use native.Mathlib.Omega.{arith}
-use lib.ListN.{length, set, getD, length-set}
-use lib.Seq.{paste, paste-zero, paste-suc, take-length}
-use lib.Ieee.{Float, nan}
-use Rattle.slices.specs.Slices.{stored}
+use lib.ListN.{length, length-set}
+use Rattle.slices.proofs.Pasted.{pasted, none-pasted, one-pasted, all-pasted}
 use borrow.Author.Needs.{needs}
 use Rattle.slices.proofs.copy.Statement.{statement}
 use Rattle.slices.proofs.copy.Tie as tie
 
--- the first k entries of the block put in
-put-so-far : List Float → ℕ → List Float → ℕ → List Float
-put-so-far into at block k = paste into at block k
-
 abbrev Inv-loop : tie.InvT-loop
-Inv-loop into₀ at block i₀ i-end into i = (i ≤ i-end) × (i-end ≡ length block) × (length into ≡ length into₀) × (into ≡ put-so-far into₀ at block i)
+Inv-loop into₀ at block i₀ i-end into i = (i ≤ i-end) × (i-end ≡ length block) × (length into ≡ length into₀) × (into ≡ pasted into₀ at block i)
 
 abbrev μ-loop : tie.MeasureT-loop
 μ-loop into₀ at block i₀ i-end into i = i-end - i
 
 loop-holds : tie.Need-loop-holds Inv-loop μ-loop
-unfolding put-so-far
-loop-holds c = (search needs, search needs, search needs, paste-zero (c .args .into .now) (c .args .at) (c .args .block .now))
+loop-holds c = (search needs, search needs, search needs, none-pasted (c .args .into .now) (c .args .at) (c .args .block .now))
 
 mul-into : tie.Need-mul-into Inv-loop μ-loop
 mul-into c = search needs
@@ -47,18 +38,13 @@ add-i c = search needs
 loop-less : tie.Need-loop-less Inv-loop μ-loop
 loop-less c = search needs
 
-put-more : (into block : List Float) (at k : ℕ) → at + k < length into → k < length block →
-    set (put-so-far into at block k) (at + k) (getD block k nan) ≡ put-so-far into at block (k + 1)
-unfolding put-so-far
-put-more into block at k h l = rw add-one (paste-suc into at block k nan h l)
-
 loop-again : tie.Need-loop-again Inv-loop μ-loop
 loop-again c = (
   search needs,
   search needs,
   simp length-set (omega arith),
   rw (c .before .before .loop .inv .3)
-      (put-more (c .before .before .before .args .into .now) (c .before .before .before .args .block .now) _ (c .before .before .loop .i) (search needs)
+      (one-pasted (c .before .before .before .args .into .now) (c .before .before .before .args .block .now) _ (c .before .before .loop .i) (search needs)
       (search needs)),
 )
 
@@ -66,10 +52,7 @@ same-length : tie.Need-same-length Inv-loop μ-loop
 same-length c = c .before .loop .inv .2
 
 returns : tie.Need-returns Inv-loop μ-loop
-unfolding stored put-so-far
-returns c =
-    let e : c .before .loop .i ≡ length (c .before .before .args .block .now) = omega arith in
-    c .before .loop .inv .3 ∙ rw (e, take-length)
+returns c = c .before .loop .inv .3 ∙ all-pasted (c .before .before .args .into .now) (c .before .before .args .at) (c .before .before .args .block .now) (c .before .loop .i) (omega arith)
 
 pub copy-spec : {M : Type 1} → statement M
 copy-spec =

@@ -1,0 +1,71 @@
+-- The verdict on an ear: in an even buffer it is a single decoder's, and where it accepts, the buffer has two frames.
+use Prim.Native.Nat.{ℕ, _*_}
+use mathlib.Core.Path.{_≡_, refl, sym, _∙_}
+use mathlib.Core.Bool.{Bool, true, false}
+use mathlib.Core.List.{List}
+use native.Mathlib.Omega.{arith}
+use borrow.Author.Tests.{eqb-true, eqb-false, eq-eqb, ne-eqb}
+use lib.Dec.{eqb}
+use lib.Ieee.{Float}
+use lib.ListN.{length}
+use Rattle.rates.specs.declared.answer.Answer.the-variants.{CoefficientCount, CoefficientNotFinite, SampleCount}
+use Rattle.rates.specs.declared.config.Lc3Config.{Lc3Config}
+use Rattle.rates.specs.declared.config.Configured.{Configured}
+use Rattle.rates.specs.declared.config.Configured.the-variants.{Config, Refused}
+use Rattle.floats.specs.Single.{allInRange}
+use Rattle.control.specs.Judge.{unless, setCounts, setFinite, judgedSide, rangeJudged, judgedWith, judged}
+use Rattle.control.specs.declared.registers.Registers.{Registers}
+use Rattle.control.specs.declared.judge.SideInfo.{SideInfo}
+use Rattle.control.specs.declared.judge.Plan.{Plan}
+use Rattle.control.specs.declared.judge.Verdict.{Verdict}
+use Rattle.control.specs.declared.judge.Verdict.the-variants.{Accepted}
+use Rattle.control.proofs.Judging.{accepted-plan}
+use Rattle.decoder.specs.State.{fitRing}
+use Rattle.ears.specs.Both.{twoFrames}
+use Rattle.ears.specs.Required.{Ready}
+use Rattle.ears.specs.declared.frame.Ear.{Ear}
+
+eqb-twice : (count n m : ℕ) → count ≡ 2 * n → eqb count (2 * m) ≡ eqb n m
+eqb-twice count n m e = go (eqb n m) refl
+  where
+    go : (b : Bool) → eqb n m ≡ b → eqb count (2 * m) ≡ b
+    go true p = eq-eqb count (2 * m) (omega (arith, eqb-true n m p))
+    go false p = ne-eqb count (2 * m) (λ q. eqb-false n m p (omega arith))
+
+module _ (r : Registers) (nums dens : List Float) (side : SideInfo) (own : List Float) (count : ℕ) where
+  pub as-single : (k : Configured) → count ≡ 2 * length own → judgedWith r nums dens side (twoFrames count) own k ≡ judged r k nums dens side own
+  unfolding judged
+  as-single (Refused answer) e = refl
+  as-single (Config c) e = rw (eqb-twice count (length own) (c .nf) e)
+
+  accepted-count : (c : Lc3Config) (plan : Plan) → judgedWith r nums dens side (twoFrames count) own (Config c) ≡ Accepted plan → count ≡ 2 * c .nf
+  accepted-count c plan e = go (setCounts c nums dens) (setFinite nums dens) (eqb count (2 * c .nf)) refl e
+    where
+      go : (p q b : Bool) → eqb count (2 * c .nf) ≡ b →
+          unless p CoefficientCount (unless q CoefficientNotFinite (unless b SampleCount (rangeJudged own (judgedSide r c side)))) ≡ Accepted plan → count ≡ 2 * c .nf
+      go p q true f e = eqb-true count (2 * c .nf) f
+      go true true false f e = let z : _≡_ {A = ℕ} 0 1 = cc in absurd (omega arith)
+      go true false false f e = let z : _≡_ {A = ℕ} 0 1 = cc in absurd (omega arith)
+      go false q false f e = let z : _≡_ {A = ℕ} 0 1 = cc in absurd (omega arith)
+
+-- an accepted ear is ready to be carried out
+pub ready : (ear : Ear) (nums dens own buffer xs ys : List Float) (side : SideInfo) (plan : Plan) → ((k : ℕ) → length buffer ≡ 2 * k → length own ≡ k) →
+    length xs ≡ 1080 → length ys ≡ 1080 →
+    judgedWith (ear .registers) nums dens side (twoFrames (length buffer)) own (fitRing (ear .registers) (ear .«block_start_index»)) ≡ Accepted plan →
+    Ready ear nums dens own buffer plan xs ys
+ready ear nums dens own buffer xs ys side plan half x y e = go (fitRing r (ear .«block_start_index»)) refl e
+  where
+    r : Registers
+    r = ear .registers
+
+    go : (k : Configured) → fitRing (ear .registers) (ear .«block_start_index») ≡ k →
+        judgedWith (ear .registers) nums dens side (twoFrames (length buffer)) own k ≡ Accepted plan → Ready ear nums dens own buffer plan xs ys
+    go (Refused answer) f a = let z : _≡_ {A = ℕ} 0 1 = cc in absurd (omega arith)
+    go (Config c) f a =
+        let n : length buffer ≡ 2 * c .nf = accepted-count (ear .registers) nums dens side own (length buffer) c plan a in
+        let twice : length buffer ≡ 2 * length own = omega (arith, half (c .nf) n) in
+        let verdict : judged (ear .registers) (fitRing (ear .registers) (ear .«block_start_index»)) nums dens side own ≡ Accepted plan =
+        rw f (sym (as-single (ear .registers) nums dens side own (length buffer) (Config c) twice) ∙ a) in
+        let found = accepted-plan (ear .registers) (fitRing (ear .registers) (ear .«block_start_index»)) nums dens side own plan verdict .0 in
+        let same : plan .config ≡ c = cc in
+        record { judged = record { side = side; verdict = verdict }; count = rw same n; inputs = x; outputs = y }

@@ -1,0 +1,13 @@
+-- `named_alike` compares the rates, then the durations.
+use borrow.Author.Tests.{eq-eqb, ne-eqb}
+use Rattle.ears.proofs.judge.named_alike.Statement.{statement}
+use Rattle.ears.proofs.judge.named_alike.Tie as tie
+
+returns : tie.Need-returns
+returns c = rw (eq-eqb _ _ (c .before .before .if1 .taken))
+
+returns-2 : tie.Need-returns-2
+returns-2 c = rw (ne-eqb _ _ (c .if1 .left))
+
+pub named-alike-spec : {M : Type 1} → statement M
+named-alike-spec = tie.close (tie.spec returns returns-2)
