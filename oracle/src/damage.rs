@@ -104,24 +104,18 @@ pub fn ears(set: &Set) -> bool {
     judge.start_both(8000, 10000);
     judge.lend(set);
     judge.frame(active, 100, &samples);
-    buffer.spoil(8, "frame 1, lowest byte of sample 158, the left ear's last");
+    buffer.spoil(8, "frame 1, lowest byte of sample 158, on the left");
     judge.frame(active, 100, &samples);
-    buffer.spoil(4, "frame 2, lowest byte of sample 159, the right ear's last");
+    buffer.spoil(4, "frame 2, lowest byte of sample 159, on the right");
     buffer.spoil(4 * 160 + 4, "frame 2, the left answer");
     judge.frame([None; 2], 100, &samples);
     buffer.spoil(4 * 160 + 3, "frame 3, the left settled report");
-    buffer.spoil(
-        4 * 159 - 3,
-        "frame 3, highest byte of sample 1, the right ear's first",
-    );
+    buffer.spoil(4 * 159 - 3, "frame 3, highest byte of sample 1, on the right");
     judge.frame([active[0], present(512, true)], 100, &samples);
     buffer.spoil(4 * 160 + 2, "frame 4, the right answer, of a refusal");
     judge.frame([present(512, true), active[1]], 100, &samples);
     buffer.spoil(4 * 160 + 1, "frame 5, the right settled report");
-    buffer.spoil(
-        4 * 160,
-        "frame 5, lowest byte of sample 0, of the ear that is refused",
-    );
+    buffer.spoil(4 * 160, "frame 5, lowest byte of sample 0, of the refused ear");
     judge.loss_mark(LEFT);
     buffer.spoil(1, "loss mark 1, the settled report");
     judge.loss_mark(RIGHT);
