@@ -1,5 +1,7 @@
 // Short vectors with wrong answers at known places, to show that a compare program reports each.
 use crate::decoder_judge::DecoderJudge;
+use crate::ears::{LEFT, RIGHT};
+use crate::ears_judge::EarsJudge;
 use crate::encoder_judge::EncoderJudge;
 use crate::model::present;
 use crate::set::Set;
@@ -89,6 +91,41 @@ pub fn encoder(set: &Set) -> bool {
     buffer.spoil(1, "start 2, the answer");
     judge.start(8000, 10000);
     judge.frame(false, 100, &samples);
+    let clean = judge.end();
+    buffer.print();
+    clean
+}
+
+pub fn ears(set: &Set) -> bool {
+    let buffer = Buffer::default();
+    let mut judge = EarsJudge::new(buffer.clone());
+    let active = [present(100, true), present(400, true)];
+    let samples: Vec<f32> = (0..160).map(|n| (n * n % 97) as f32 * 10.0 - 450.0).collect();
+    judge.start_both(8000, 10000);
+    judge.lend(set);
+    judge.frame(active, 100, &samples);
+    buffer.spoil(8, "frame 1, lowest byte of sample 158, on the left");
+    judge.frame(active, 100, &samples);
+    buffer.spoil(4, "frame 2, lowest byte of sample 159, on the right");
+    buffer.spoil(4 * 160 + 4, "frame 2, the left answer");
+    judge.frame([None; 2], 100, &samples);
+    buffer.spoil(4 * 160 + 3, "frame 3, the left settled report");
+    buffer.spoil(4 * 159 - 3, "frame 3, highest byte of sample 1, on the right");
+    judge.frame([active[0], present(512, true)], 100, &samples);
+    buffer.spoil(4 * 160 + 2, "frame 4, the right answer, of a refusal");
+    judge.frame([present(512, true), active[1]], 100, &samples);
+    buffer.spoil(4 * 160 + 1, "frame 5, the right settled report");
+    buffer.spoil(4 * 160, "frame 5, lowest byte of sample 0, of the refused ear");
+    judge.loss_mark(LEFT);
+    buffer.spoil(1, "loss mark 1, the settled report");
+    judge.loss_mark(RIGHT);
+    buffer.spoil(2, "loss mark 2, the answer");
+    judge.start(RIGHT, 8000, 1);
+    buffer.spoil(1, "start 3, the answer");
+    judge.frame(active, 100, &samples);
+    buffer.spoil(4 * 160 + 4, "frame 6, the left answer, of ears that differ");
+    judge.start(RIGHT, 8000, 10000);
+    judge.frame([None; 2], 100, &samples);
     let clean = judge.end();
     buffer.print();
     clean

@@ -100,19 +100,25 @@ impl<W: Write> DecoderJudge<W> {
         self.counts.other("loss marks");
     }
 
-    // A frame: the model's answer is written down, and compared where it is done.
+    // A frame: what must come out is written down.
     pub fn frame(&mut self, pitch: Pitch, nbits: u32, samples: &[f32]) -> u8 {
+        let (answer, out) = self.judged(pitch, nbits, samples);
+        self.vectors.decoder_frame(pitch, nbits, samples);
+        self.vectors.decoder_answer(answer, self.model.settled, &out);
+        answer
+    }
+
+    // What must come out of a frame: the model's answer and samples, compared with the Rust where it is done.
+    pub fn judged(&mut self, pitch: Pitch, nbits: u32, samples: &[f32]) -> (u8, Vec<f32>) {
         let before = self.model.clone();
         let mut out = samples.to_vec();
         let answer = self.model.frame(&self.num, &self.den, pitch, nbits, &mut out);
-        self.vectors.decoder_frame(pitch, nbits, samples);
-        self.vectors.decoder_answer(answer, self.model.settled, &out);
         if answer == answer::DONE {
             self.compare(&before, pitch, nbits, samples, &out);
         } else {
             self.counts.other(&format!("frame refused with {answer}"));
         }
-        answer
+        (answer, out)
     }
 
     fn compare(&mut self, before: &Decoder, pitch: Pitch, nbits: u32, samples: &[f32], out: &[f32]) {

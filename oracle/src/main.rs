@@ -4,6 +4,10 @@ mod common;
 mod counts;
 mod damage;
 mod decoder_judge;
+mod ears;
+mod ears_judge;
+mod ears_plan;
+mod ears_refusals;
 mod encoder_judge;
 mod faults;
 mod given;
@@ -18,16 +22,17 @@ mod tables;
 mod vectors;
 
 use decoder_judge::DecoderJudge;
+use ears_judge::EarsJudge;
 use encoder_judge::EncoderJudge;
 use plan::Plan;
 use set::Set;
 use std::io::BufWriter;
 
 const USAGE: &str = "\
-usage: oracle decoder|encoder --seed N --runs N [--frames N] [--coefficients FILE|random] [--rates HZ,HZ..]
-       oracle refusals decoder|encoder [--coefficients FILE]
+usage: oracle decoder|encoder|ears --seed N --runs N [--frames N] [--coefficients FILE|random] [--rates HZ,HZ..]
+       oracle refusals decoder|encoder|ears [--coefficients FILE]
        oracle faults decoder|encoder [--coefficients FILE]
-       oracle damage decoder|encoder [--coefficients FILE]
+       oracle damage decoder|encoder|ears [--coefficients FILE]
 Vectors go to standard output, counts to standard error. The status is 1 where a difference is on no list.
   --frames        good frames in a run, 16 if not given
   --coefficients  a file of table, row, entry, value and bits, or `random` for a new set in each run;
@@ -132,11 +137,25 @@ fn encoder(what: &str, options: Options) -> bool {
     judge.end()
 }
 
+// What the vectors of both ears are filled with.
+fn ears(what: &str, options: Options) -> bool {
+    if what == "damage" {
+        return damage::ears(&published(&options.coefficients));
+    }
+    let mut judge = EarsJudge::new(BufWriter::new(std::io::stdout().lock()));
+    match what {
+        "refusals" => ears_refusals::ears(&mut judge, &published(&options.coefficients)),
+        _ => ears_plan::run_ears(&plan(options), &mut judge),
+    }
+    judge.end()
+}
+
 fn main() {
     let arguments: Vec<String> = std::env::args().skip(1).collect();
     let words: Vec<&str> = arguments.iter().map(|a| a.as_str()).collect();
     let (what, end, rest) = match words[..] {
-        [end @ ("decoder" | "encoder"), ..] => ("runs", end, &arguments[1..]),
+        [end @ ("decoder" | "encoder" | "ears"), ..] => ("runs", end, &arguments[1..]),
+        [what @ ("refusals" | "damage"), end @ "ears", ..] => (what, end, &arguments[2..]),
         [what @ ("refusals" | "faults" | "damage"), end @ ("decoder" | "encoder"), ..] => {
             (what, end, &arguments[2..])
         }
@@ -147,10 +166,10 @@ fn main() {
         "oracle: the given Rust is that of {}; at 44100 Hz its 48000 judges",
         given::SOURCE
     );
-    let clean = if end == "decoder" {
-        decoder(what, options)
-    } else {
-        encoder(what, options)
+    let clean = match end {
+        "decoder" => decoder(what, options),
+        "encoder" => encoder(what, options),
+        _ => ears(what, options),
     };
     std::process::exit(if clean { 0 } else { 1 })
 }

@@ -15,6 +15,8 @@ pub mod answer {
     pub const TOO_MANY_BITS: u8 = 6;
     pub const INDEX_TOO_LARGE: u8 = 7;
     pub const SAMPLE_OUT_OF_RANGE: u8 = 8;
+    pub const UNFIT_STATE: u8 = 9;
+    pub const EARS_DIFFER: u8 = 13;
 }
 
 // "nbits above 3,200" is refused.

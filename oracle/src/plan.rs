@@ -26,17 +26,17 @@ const SCRIPT: [u8; 7] = [2, 4, 5, 3, 1, 2, 5];
 
 impl Plan {
     // The rate and duration of a run: all of them in turn.
-    fn config(&self, run: usize) -> (u32, u32) {
+    pub fn config(&self, run: usize) -> (u32, u32) {
         let turn = run % (2 * self.rates.len());
         (self.rates[turn / 2], DURATIONS[turn % 2])
     }
 
     // Whether a run is the first of its rate and duration, which goes by a script.
-    fn scripted(&self, run: usize) -> bool {
+    pub fn scripted(&self, run: usize) -> bool {
         run < 2 * self.rates.len()
     }
 
-    fn set(&self, random: &mut Random) -> Set {
+    pub fn set(&self, random: &mut Random) -> Set {
         self.set.clone().unwrap_or_else(|| Set::random(random))
     }
 }
@@ -50,7 +50,7 @@ fn bits_of_row(config: &Config, row: usize) -> (u32, u32) {
 }
 
 // Bits of a gain row, at its ends half of the time.
-fn bits(random: &mut Random, config: &Config, row: usize) -> u32 {
+pub fn bits(random: &mut Random, config: &Config, row: usize) -> u32 {
     let (least, most) = bits_of_row(config, row);
     match random.below(4) {
         0 => least,
@@ -59,7 +59,7 @@ fn bits(random: &mut Random, config: &Config, row: usize) -> u32 {
     }
 }
 
-fn voice(random: &mut Random, r: u32) -> Voice {
+pub fn voice(random: &mut Random, r: u32) -> Voice {
     let kind = random.pick(&KINDS);
     Voice::new(random, kind, r)
 }
@@ -75,7 +75,7 @@ fn any_index(random: &mut Random, before: u32) -> u32 {
 }
 
 // A drawn pitch record: absent, inactive, active as before, or active elsewhere.
-fn any_pitch(random: &mut Random, before: u32) -> Pitch {
+pub fn any_pitch(random: &mut Random, before: u32) -> Pitch {
     let index = any_index(random, before);
     match random.below(8) {
         0 => None,
@@ -87,7 +87,7 @@ fn any_pitch(random: &mut Random, before: u32) -> Pitch {
 
 // The record that gives the case asked for, with the range ends in turn. The last case 5 goes to the
 // farthest lag, where the given Rust differs at 10 ms.
-fn scripted_pitch(case: u8, turn: usize, r: u32, before: u32) -> Pitch {
+pub fn scripted_pitch(case: u8, turn: usize, r: u32, before: u32) -> Pitch {
     let ends = |k: usize| INDICES_AT_ENDS[(turn + k) % INDICES_AT_ENDS.len()];
     match case {
         1 => None,

@@ -8,7 +8,7 @@ use crate::set::Set;
 use std::io::Write;
 
 // A rate, a duration, and what a start with them must answer.
-const REFUSED_STARTS: [(u32, u32, u8); 8] = [
+pub const REFUSED_STARTS: [(u32, u32, u8); 8] = [
     (0, TEN_MS, 1),
     (44000, SEVEN_POINT_FIVE_MS, 1),
     (96000, TEN_MS, 1),
@@ -30,7 +30,7 @@ struct DecoderCall {
 }
 
 // Takes the last entry away.
-fn shorten<T>(values: &mut Vec<T>) {
+pub fn shorten<T>(values: &mut Vec<T>) {
     values.truncate(values.len() - 1);
 }
 
@@ -84,14 +84,14 @@ fn spoilings<T: Copy>(defects: &[(u8, T)]) -> Vec<(u8, Vec<T>)> {
 }
 
 // A frame of ramps and signs that no two calls share.
-fn ramp(turn: usize, count: usize) -> Vec<f32> {
+pub fn ramp(turn: usize, count: usize) -> Vec<f32> {
     (0..count)
         .map(|n| ((n * 37 + turn * 101) % 211) as f32 * 8.5 - 700.0)
         .collect()
 }
 
 // The pitch records of the good frames in turn: every case comes up.
-const GOOD: [Pitch; 7] = [
+pub const GOOD: [Pitch; 7] = [
     present(60, true),
     present(60, true),
     present(511, true),

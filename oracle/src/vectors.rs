@@ -73,6 +73,49 @@ impl<W: Write> Vectors<W> {
         self.put(&[answer, settled as u8]);
     }
 
+    // A start of one ear: 0 is left, 1 right.
+    pub fn ear_start(&mut self, ear: u8, hz: u32, duration: u32, answer: u8) {
+        self.put(&[b'S', ear]);
+        self.put(&hz.to_le_bytes());
+        self.put(&duration.to_le_bytes());
+        self.put(&[answer]);
+    }
+
+    pub fn ear_loss_mark(&mut self, ear: u8, answer: u8, settled: bool) {
+        self.put(&[b'L', ear, answer, settled as u8]);
+    }
+
+    // A made-up run of one ear.
+    pub fn ear_run(&mut self, ear: u8, run: u32) {
+        self.put(&[b'R', ear]);
+        self.put(&run.to_le_bytes());
+    }
+
+    // A made-up rate and duration of one ear.
+    pub fn ear_names(&mut self, ear: u8, names: (u32, u32)) {
+        self.put(&[b'N', ear]);
+        self.put(&names.0.to_le_bytes());
+        self.put(&names.1.to_le_bytes());
+    }
+
+    pub fn ears_frame(&mut self, pitches: [Pitch; 2], nbits: u32, buffer: &[f32]) {
+        self.put(b"F");
+        self.pitch(pitches[0]);
+        self.pitch(pitches[1]);
+        self.put(&nbits.to_le_bytes());
+        self.put(&(buffer.len() as u16).to_le_bytes());
+        for sample in buffer {
+            self.put(&sample.to_bits().to_le_bytes());
+        }
+    }
+
+    pub fn ears_answer(&mut self, answers: [u8; 2], settled: [bool; 2], buffer: &[f32]) {
+        self.put(&[answers[0], settled[0] as u8, answers[1], settled[1] as u8]);
+        for sample in buffer {
+            self.put(&out_bits(*sample).to_le_bytes());
+        }
+    }
+
     pub fn encoder_frame(&mut self, near_nyquist: bool, nbits: u32, samples: &[i16]) {
         self.put(b"F");
         self.put(&[near_nyquist as u8]);

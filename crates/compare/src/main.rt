@@ -1,6 +1,6 @@
-// Compares an end with vector files: makes every call that a file lists, and prints where an answer, a
-// report, a sample or a pitch record differs from what the file says. The arguments name an end and
-// its files, and so on; an end that is named without a file reads standard input.
+// Compares an end, or both ears of the decoder, with vector files: makes every call that a file lists, and
+// prints where an answer, a report, a sample or a pitch record differs from what the file says. The
+// arguments name an end and its files, and so on; an end that is named without a file reads standard input.
 use libc::STDERR_FILENO;
 use libc::STDIN_FILENO;
 use libc::STDOUT_FILENO;
@@ -8,6 +8,7 @@ use libc::STDOUT_FILENO;
 enum End {
     Decoder,
     Encoder,
+    Ears,
 }
 
 // What a word means: an end, or a file.
@@ -29,6 +30,9 @@ fn meaning(word: &[u8]) -> Meant {
     if check::same(word, b"encoder") {
         return Meant::End(End::Encoder);
     }
+    if check::same(word, b"ears") {
+        return Meant::End(End::Ears);
+    }
     Meant::File
 }
 
@@ -36,6 +40,7 @@ fn compare(end: End, fd: i32) {
     match end {
         End::Decoder => decoder_vectors::run::compare(fd),
         End::Encoder => encoder_vectors::run::compare(fd),
+        End::Ears => ears_vectors::run::compare(fd),
     }
 }
 
@@ -81,7 +86,7 @@ fn take(chosen: Chosen, word: &[u8]) -> Chosen {
 fn fail_usage() {
     io::write_all(
         STDERR_FILENO,
-        b"usage: compare decoder|encoder [FILES..] [decoder|encoder [FILES..]]..\n",
+        b"usage: compare decoder|encoder|ears [FILES..] [decoder|encoder|ears [FILES..]]..\n",
     );
     outcome::failed();
 }

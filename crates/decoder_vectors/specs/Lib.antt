@@ -1,2 +1,3 @@
 -- What the contracts of `decoder_vectors` cite.
 pub mod Steps
+pub mod Pitch

@@ -1,4 +1,5 @@
 // The decoder's calls: each is read, made and compared.
+use crate::pitch::pitch_of;
 use crate::set::Set;
 use control::judge::SideInfo;
 use decoder::frame::Framed;
@@ -6,8 +7,6 @@ use decoder::frame::frame;
 use decoder::frame::lost;
 use decoder::state::Decoder;
 use decoder::state::start;
-use lag::pitch::PitchRecord;
-use lag::pitch::Present;
 use rates::answer::number;
 use vectors::numbers::of_four;
 use vectors::numbers::of_two;
@@ -83,15 +82,6 @@ fn call_lost(fd: i32, decoder: Decoder, tally: Tally) -> Called {
         decoder: next,
         tally: compare_reports(tally.loss(), &bytes, number(answer), framed.settled),
     }
-}
-
-// The pitch record of a frame's head: present, index and active.
-fn pitch_of(present: u8, index: u32, active: u8) -> PitchRecord {
-    if present == 0 {
-        return PitchRecord::Absent;
-    }
-    let active = active != 0;
-    PitchRecord::Present(Present { index, active })
 }
 
 // What goes into a frame beside its samples: a pitch record and the number of bits.

@@ -5,7 +5,7 @@ use vectors::read::none;
 use vectors::read::read_bytes;
 use vectors::read::read_floats;
 ghost use mathlib.Core.Path.{_≡_};
-ghost use Rattle.decoder_vectors.specs.Steps.{noSet};
+ghost use Rattle.decoder_vectors.specs.Steps.{noSet, SetRead};
 
 // Whether the set was read whole, and its tables.
 pub struct Set {
@@ -15,7 +15,7 @@ pub struct Set {
 }
 
 // A set of nothing.
-pub(crate) fn nothing() -> Set
+pub fn nothing() -> Set
     ensures { λ r. ⌜ r ≡ noSet ⌝ }
 {
     Set {
@@ -26,7 +26,9 @@ pub(crate) fn nothing() -> Set
 }
 
 // Reads a set: the counts of the tables, then the tables.
-pub(crate) fn read_set(fd: i32) -> Set {
+pub fn read_set(fd: i32) -> Set
+    ensures { λ r. ⌜ SetRead r ⌝ }
+{
     let mut counts = [0u8; 4];
     if !read_bytes(fd, &mut counts) {
         return nothing();

@@ -39,7 +39,7 @@ pub struct Decoder {
     pub y: Signal,
     // The filter of the frame before, if that was active.
     pub previous: Option<Filter>,
-    run: u32,
+    pub run: u32,
     pub settled: bool,
 }
 

@@ -1,0 +1,3 @@
+-- What the contracts of `ears_vectors` cite.
+pub mod States
+pub mod Steps
