@@ -7,7 +7,8 @@
  *
  *   Keep a nabiteke_decoder or a nabiteke_encoder for each stream, start it, then make one call a frame.
  *   Every start, frame and loss mark, and the writing and reading of a pitch, answers with a number of enum
- *   nabiteke_answer, NABITEKE_DONE when all went well.
+ *   nabiteke_answer, NABITEKE_DONE when all went well. For the two ears of a headset keep a nabiteke_decoder each, and
+ *   make one call a frame for both.
  *   nabiteke_published.h has the standard's coefficients, which the frame calls are lent.
  *
  *   Flags are 0 for no and anything else for yes. Rates are in Hz: 8000, 16000, 24000, 32000, 44100 or 48000.
@@ -58,10 +59,10 @@
 #include <stdint.h>
 
 #define NABITEKE_VERSION_MAJOR 1
-#define NABITEKE_VERSION_MINOR 2
+#define NABITEKE_VERSION_MINOR 3
 #define NABITEKE_VERSION_PATCH 0
-/* One number, which rises from version to version: 10200 is 1.2.0. Since 1.1.0 a decoder at 44100 gives what one at
-   48000 gives; since 1.2.0 a pitch can be packed. */
+/* One number, which rises from version to version: 10300 is 1.3.0. Since 1.1.0 a decoder at 44100 gives what one at
+   48000 gives; since 1.2.0 a pitch can be packed; since 1.3.0 both ears can be decoded in one call. */
 #define NABITEKE_VERSION (NABITEKE_VERSION_MAJOR * 10000 + NABITEKE_VERSION_MINOR * 100 + NABITEKE_VERSION_PATCH)
 
 #define NABITEKE_STACK 12288
@@ -71,7 +72,8 @@ extern "C" {
 #endif
 
 /* What a call answers. Checked in this order: a start 1, 2; a frame 9, 3, 4, 5, 6, and a decoder's then 7, 8;
-   a loss mark 9; the writing of a pitch 7, 15; its reading 15, 12. */
+   a loss mark 9; a frame of both ears 13 for both, then for each ear what a decoder's frame checks; the writing of a
+   pitch 7, 15; its reading 15, 12. */
 enum nabiteke_answer {
     NABITEKE_DONE = 0,         /* done */
     NABITEKE_RATE = 1,         /* the rate is not one of the six */
@@ -84,6 +86,7 @@ enum nabiteke_answer {
     NABITEKE_SAMPLE = 8,       /* a decoder's sample is NaN or beyond +-1048576 */
     NABITEKE_UNFIT = 9,        /* the struct was not started, or was overwritten */
     NABITEKE_PADDING = 12,     /* a bit in the padding of a packed pitch is set */
+    NABITEKE_EARS = 13,        /* the two ears' structs were started with different rates or durations */
     NABITEKE_BYTE_COUNT = 15   /* a packed pitch has too little room, or its bytes end early */
 };
 
@@ -110,6 +113,12 @@ typedef struct nabiteke_pitch {
     uint32_t index;   /* the pitch index, 0 to 511 */
     uint32_t active;  /* whether the decoder is to filter */
 } nabiteke_pitch;
+
+/* What a frame of both ears answers, each ear by itself. */
+typedef struct nabiteke_answers {
+    uint32_t left;
+    uint32_t right;
+} nabiteke_answers;
 
 /* What an encoder's frame gives. Flags are 0 or 1; index and active are 0 where no pitch is present. */
 typedef struct nabiteke_record {
@@ -152,6 +161,11 @@ uint32_t nabiteke_decoder_frame_(uint32_t *numbers, float *kept, float *inputs, 
                                  const float *numerators, size_t numerator_count, const float *denominators,
                                  size_t denominator_count, uint32_t pitch_present, uint32_t pitch_index,
                                  uint32_t pitch_active, uint32_t nbits, float *samples, size_t sample_count);
+void nabiteke_decoder_frame_both_(uint32_t *left_numbers, float *left_kept, float *left_inputs, float *left_outputs,
+                                  uint32_t *right_numbers, float *right_kept, float *right_inputs,
+                                  float *right_outputs, const float *numerators, size_t numerator_count,
+                                  const float *denominators, size_t denominator_count, const uint32_t *sides,
+                                  float *samples, size_t sample_count, uint32_t *answers);
 uint32_t nabiteke_decoder_lost_(uint32_t *numbers);
 uint32_t nabiteke_decoder_settled_(const uint32_t *numbers);
 uint32_t nabiteke_encoder_start_(uint32_t *numbers, float *memories, float *x_s, float *x_12p8, float *x_6p4,
@@ -184,6 +198,28 @@ static inline uint32_t nabiteke_decoder_frame(nabiteke_decoder *decoder, const n
                                    rows->numerators, rows->numerator_count, rows->denominators,
                                    rows->denominator_count, pitch.present, pitch.index, pitch.active, nbits, samples,
                                    sample_count);
+}
+
+/*
+ * Filters one frame of both ears in place. The samples of the two stand in one array, left and right in turn, and
+ * sample_count counts all of them: twice the samples of a frame. Both ears share the rows and nbits; each has its own
+ * state, started by itself, and its own pitch. Answers of both: 13 where the two states name different rates or
+ * durations; else each ear's own 0 or 3 to 9, as for a decoder by itself, and 5 where sample_count is not twice the
+ * frame's. An ear that is refused keeps its state and its samples while the other goes on.
+ */
+static inline nabiteke_answers nabiteke_decoder_frame_both(nabiteke_decoder *left, nabiteke_decoder *right,
+                                                           const nabiteke_rows *rows, nabiteke_pitch left_pitch,
+                                                           nabiteke_pitch right_pitch, uint32_t nbits, float *samples,
+                                                           size_t sample_count)
+{
+    const uint32_t sides[7] = {left_pitch.present, left_pitch.index,   left_pitch.active, right_pitch.present,
+                               right_pitch.index,  right_pitch.active, nbits};
+    uint32_t answers[2];
+    nabiteke_decoder_frame_both_(left->numbers, left->kept, left->inputs, left->outputs, right->numbers, right->kept,
+                                 right->inputs, right->outputs, rows->numerators, rows->numerator_count,
+                                 rows->denominators, rows->denominator_count, sides, samples, sample_count, answers);
+    nabiteke_answers both = {answers[0], answers[1]};
+    return both;
 }
 
 /* Marks that frames were lost before the next one: the decoder is no longer settled. Answers 0 or 9. */
