@@ -12,12 +12,10 @@ use Rattle.rates.specs.declared.answer.Answer.the-variants.{CoefficientCount, C
 use Rattle.rates.specs.declared.config.Lc3Config.{Lc3Config}
 use Rattle.rates.specs.declared.config.Configured.{Configured}
 use Rattle.rates.specs.declared.config.Configured.the-variants.{Config, Refused}
-use Rattle.floats.specs.Single.{allInRange}
 use Rattle.control.specs.Judge.{unless, setCounts, setFinite, judgedSide, rangeJudged, judgedWith, judged}
 use Rattle.control.specs.declared.registers.Registers.{Registers}
 use Rattle.control.specs.declared.judge.SideInfo.{SideInfo}
 use Rattle.control.specs.declared.judge.Plan.{Plan}
-use Rattle.control.specs.declared.judge.Verdict.{Verdict}
 use Rattle.control.specs.declared.judge.Verdict.the-variants.{Accepted}
 use Rattle.control.proofs.Judging.{accepted-plan}
 use Rattle.decoder.specs.State.{fitRing}

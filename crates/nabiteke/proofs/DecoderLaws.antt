@@ -22,6 +22,7 @@ use Rattle.decoder.specs.Frame.{framed, lostWith, lostFrom}
 use Rattle.decoder.specs.declared.state.Decoder.{Decoder}
 use Rattle.decoder.specs.declared.frame.Framed.{Framed}
 use Rattle.settling.specs.Calls.{Given, Call, start, frame, loss, framedBy, after, afterAll, replyOf, reply, replies}
+use Rattle.c_arrays.specs.Words.{whereDone}
 use Rattle.c_arrays.specs.Registers.{registersFrom}
 use Rattle.c_arrays.proofs.Flags.{flag-back}
 use Rattle.nabiteke.specs.DecoderArrays.{DecoderArrays, arrays, readDecoder, numbersOf, writtenDecoder}
@@ -54,15 +55,17 @@ started-kept rate duration = go (configOf rate duration)
     go (Config c) = clear-kept rate duration
     go (Refused a) = clear-kept 48000 10000
 
--- the state in the arrays after a call
+-- the state in the arrays after an outcome
+pub outcome-kept : (a : DecoderArrays) {samples : List Float} {r : Framed × List Float} → Outcome (readDecoder a) samples r →
+    readDecoder (whereDone (r .0 .answer) (writtenDecoder (r .0 .decoder)) a) ≡ r .0 .decoder
+outcome-kept a (refusal b h) = rw (ne-eqb (numberOf b) 0 h)
+outcome-kept a (success next out w) = read-written next (w .nums) (w .dens)
+
+-- and after a call
 pub call-kept : (a : DecoderArrays) (c : Call) → readDecoder (arraysAfter a c) ≡ after (readDecoder a) c
 unfolding lostFrom startCall frameCall lostCall registersFrom numbersOf
 call-kept a (start rate duration) = started-kept rate duration
-call-kept a (frame f) = go (framedBy (readDecoder a) f) (outcome (readDecoder a) f)
-  where
-    go : (r : Framed × List Float) → Outcome (readDecoder a) (f .samples) r → readDecoder (handed a r .1) ≡ r .0 .decoder
-    go r (refusal b h) = rw (ne-eqb (numberOf b) 0 h)
-    go r (success next out w) = read-written next (w .nums) (w .dens)
+call-kept a (frame f) = outcome-kept a (outcome (readDecoder a) f)
 call-kept a loss = go (fitDecoder (readDecoder a)) refl
   where
     go : (k : Configured) → fitDecoder (readDecoder a) ≡ k → readDecoder (handedNumbers a (lostWith (readDecoder a) k) .1) ≡ lostWith (readDecoder a) k .decoder

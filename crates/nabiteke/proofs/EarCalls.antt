@@ -56,10 +56,10 @@ module _ (l r : DecoderArrays) (numerators denominators : List Float) (sides : L
   abbrev rightGiven : EarGiven
   rightGiven = record { shared = sharedBy (readDecoder l) (readDecoder r) numerators denominators (getD sides 6 0) buffer; pitch = pitchAt sides 3; samples = rights buffer }
 
-  left-outcome : Outcome (readDecoder l) (lefts buffer) (earFramedBy (readDecoder l) leftGiven)
+  pub left-outcome : Outcome (readDecoder l) (lefts buffer) (earFramedBy (readDecoder l) leftGiven)
   left-outcome = ear-outcome (readDecoder l) leftGiven (λ n e. halves buffer n e .0)
 
-  right-outcome : Outcome (readDecoder r) (rights buffer) (earFramedBy (readDecoder r) rightGiven)
+  pub right-outcome : Outcome (readDecoder r) (rights buffer) (earFramedBy (readDecoder r) rightGiven)
   right-outcome = ear-outcome (readDecoder r) rightGiven (λ n e. halves buffer n e .1)
 
   module _ (left right : Ear) (st : BothFramed) (lx ly rx ry out : List Float) (from-l : left ≡ earOf l (pitchAt sides 0)) (from-r : right ≡ earOf r (pitchAt sides 3))

@@ -1,5 +1,5 @@
 -- An accepted frame: what of it matters after judging, the state that it leaves, fit again, and the pasts moved along by it.
-use Prim.Native.Nat.{ℕ, _+_, _%_, _≤_}
+use Prim.Native.Nat.{_+_, _%_}
 use mathlib.Core.Path.{_≡_, refl, _∙_}
 use mathlib.Core.Bool.{Bool, true}
 use mathlib.Core.List.{List, _++_}
@@ -15,7 +15,6 @@ use Rattle.rates.proofs.Known.{both}
 use Rattle.lag.specs.declared.gain.Gain.{Gain}
 use Rattle.lag.specs.declared.rescale.Lag.{Lag}
 use Rattle.filter.specs.Transition.{transitionOf, outputs}
-use Rattle.coefficients.specs.declared.Taps.{Taps}
 use Rattle.filter.proofs.OutputsLong.{outputs-long}
 use Rattle.control.specs.State.{lagFits}
 use Rattle.control.specs.Next.{nextRegisters}

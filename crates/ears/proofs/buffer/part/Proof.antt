@@ -1,6 +1,6 @@
 -- `part` copies a sample of each ear a turn.
 use Prim.Native.Nat.{_-_, _≤_}
-use mathlib.Core.Path.{_≡_, sym, _∙_}
+use mathlib.Core.Path.{_≡_, _∙_}
 use native.Mathlib.Omega.{arith}
 use lib.ListN.{length, length-set}
 use Rattle.slices.proofs.Pasted.{pasted, none-pasted, one-pasted, all-pasted}

@@ -1,5 +1,5 @@
 -- `nabiteke_decoder_frame_both_` frames both ears in place, and writes the registers of each ear that is done.
-use Rattle.nabiteke.specs.DecoderArrays.{DecoderArrays, arrays}
+use Rattle.nabiteke.specs.DecoderArrays.{arrays}
 use Rattle.nabiteke.proofs.EarCalls.{left-fits, right-fits, both-left}
 use borrow.Author.Needs.{needs}
 use Rattle.nabiteke.proofs.ear_calls.nabiteke_decoder_frame_both_.Statement.{statement}
