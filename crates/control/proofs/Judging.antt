@@ -19,7 +19,7 @@ use Rattle.lag.specs.declared.rescale.Lag.{Lag}
 use Rattle.lag.specs.declared.rescale.FoundLag.{FoundLag}
 use Rattle.coefficients.specs.Required.{Lent}
 use Rattle.control.specs.Pitch.{lagFor}
-use Rattle.control.specs.Judge.{unless, setCounts, setFinite, planOf, lagJudged, judgedSide, rangeJudged, judged}
+use Rattle.control.specs.Judge.{unless, setCounts, setFinite, planOf, lagJudged, judgedSide, rangeBy, judged}
 use Rattle.control.specs.declared.registers.Registers.{Registers}
 use Rattle.control.specs.declared.judge.SideInfo.{SideInfo}
 use Rattle.control.specs.declared.judge.Plan.{Plan}
@@ -56,7 +56,7 @@ module _ (c : Lc3Config) (nums dens : List Float) (side : SideInfo) (samples : L
 
   -- 6, 7 and 8, once the counts are right
   ranged : (b : Bool) → leb (side .nbits) 3200 ≡ b → setCounts c nums dens ≡ true → length samples ≡ c .nf → (l : FoundLag) → lagFor (c .fs) (side .pitch) ≡ l →
-      Alike (λ r. rangeJudged samples (unless b TooManyBits (lagJudged r c side l)))
+      Alike (λ r. rangeBy (allInRange samples) (unless b TooManyBits (lagJudged r c side l)))
   ranged false e counts count l f = (declined TooManyBits (omega arith) (omega arith), λ r. refl)
   ranged true e counts count FoundLag.IndexTooLarge f = (declined IndexTooLarge (omega arith) (omega arith), λ r. refl)
   ranged true e counts count (FoundLag.Lag lag) f =

@@ -60,9 +60,6 @@ abbrev pub rangeBy : Bool → Verdict → Verdict
 rangeBy ranged (Refused answer) = Refused answer
 rangeBy ranged (Accepted plan) = unless ranged SampleOutOfRange (Accepted plan)
 
-abbrev pub rangeJudged : List Float → Verdict → Verdict
-rangeJudged samples v = rangeBy (allInRange samples) v
-
 -- 9, which fitness decided; then 3, 4, 5; then 6 and 7, and last 8: by what the tests of the lent entries and of the samples gave
 abbrev pub judgedBy : Registers → List Float → List Float → SideInfo → Tested → Configured → Verdict
 judgedBy r numerators denominators side tested (Configured.Refused answer) = Refused answer

@@ -12,7 +12,8 @@ use Rattle.rates.specs.declared.answer.Answer.the-variants.{CoefficientCount, C
 use Rattle.rates.specs.declared.config.Lc3Config.{Lc3Config}
 use Rattle.rates.specs.declared.config.Configured.{Configured}
 use Rattle.rates.specs.declared.config.Configured.the-variants.{Config, Refused}
-use Rattle.control.specs.Judge.{unless, setCounts, setFinite, judgedSide, rangeJudged, judgedWith, judged}
+use Rattle.floats.specs.Single.{allInRange}
+use Rattle.control.specs.Judge.{unless, setCounts, setFinite, judgedSide, rangeBy, judgedWith, judged}
 use Rattle.control.specs.declared.registers.Registers.{Registers}
 use Rattle.control.specs.declared.judge.SideInfo.{SideInfo}
 use Rattle.control.specs.declared.judge.Plan.{Plan}
@@ -41,7 +42,7 @@ module _ (r : Registers) (nums dens : List Float) (side : SideInfo) (own : List 
   accepted-count c plan e = go (setCounts c nums dens) (setFinite nums dens) (eqb count (2 * c .nf)) refl e
     where
       go : (p q b : Bool) → eqb count (2 * c .nf) ≡ b →
-          unless p CoefficientCount (unless q CoefficientNotFinite (unless b SampleCount (rangeJudged own (judgedSide r c side)))) ≡ Accepted plan → count ≡ 2 * c .nf
+          unless p CoefficientCount (unless q CoefficientNotFinite (unless b SampleCount (rangeBy (allInRange own) (judgedSide r c side)))) ≡ Accepted plan → count ≡ 2 * c .nf
       go p q true f e = eqb-true count (2 * c .nf) f
       go true true false f e = let z : _≡_ {A = ℕ} 0 1 = cc in absurd (omega arith)
       go true false false f e = let z : _≡_ {A = ℕ} 0 1 = cc in absurd (omega arith)

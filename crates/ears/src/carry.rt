@@ -46,12 +46,13 @@ fn carry_ear(
     )
 }
 
-// Whether both frames are of the first case, and so leave the buffer as it is.
-fn both_inactive(left: Plan, right: Plan) -> bool
-    ensures { λ r. ⌜ (r ≡ true → (left .transition ≡ Inactive) × (right .transition ≡ Inactive)) ⌝ }
+// Whether both frames are of the first case, and so leave the buffer as it is. Only a yes has to be right: it spares
+// the copying back.
+fn both_inactive(left_plan: Plan, right_plan: Plan) -> bool
+    ensures { λ r. ⌜ (r ≡ true → («left_plan» .transition ≡ Inactive) × («right_plan» .transition ≡ Inactive)) ⌝ }
 {
-    let left = left.transition;
-    let right = right.transition;
+    let left = left_plan.transition;
+    let right = right_plan.transition;
     if let Transition::Inactive = left {
         if let Transition::Inactive = right {
             return true;
@@ -60,7 +61,8 @@ fn both_inactive(left: Plan, right: Plan) -> bool
     false
 }
 
-// The frames of both ears. x is an ear's ring of inputs, y that of its outputs, num and den are the lent rows.
+// The frames of both ears. lx, ly and lp are the left ear's rings of inputs and outputs and its plan, rx, ry and rp the
+// right ear's; num and den are the lent rows.
 pub(crate) fn carry_both(
     left: Ear,
     lx: &mut [f32],
@@ -78,9 +80,9 @@ pub(crate) fn carry_both(
     ensures { λ r. ⌜ (r, now (lx .exit), now (ly .exit), now (rx .exit), now (ry .exit), now (samples .exit)) ≡ bothApart (bothOf (done (accepted (stateOf left (now (lx .entry)) (now (ly .entry))) lp (now (num .entry)) (now (den .entry)) (lefts (now (samples .entry))))) (done (accepted (stateOf right (now (rx .entry)) (now (ry .entry))) rp (now (num .entry)) (now (den .entry)) (rights (now (samples .entry)))))) ⌝ }
 {
     let nf = lp.config.nf;
-    let l = left.block_start_index;
-    let r = right.block_start_index;
-    part(samples, nf, lx, l, rx, r);
+    let left_start = left.block_start_index;
+    let right_start = right.block_start_index;
+    part(samples, nf, lx, left_start, rx, right_start);
     let both = BothFramed {
         left: carry_ear(left, lx, ly, lp, num, den),
         right: carry_ear(right, rx, ry, rp, num, den),
@@ -88,7 +90,7 @@ pub(crate) fn carry_both(
     if both_inactive(lp, rp) {
         return both;
     }
-    join(samples, nf, ly, l, ry, r);
+    join(samples, nf, ly, left_start, ry, right_start);
     both
 }
 

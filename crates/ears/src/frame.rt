@@ -39,8 +39,8 @@ fn refused_ear(answer: Answer, ear: Ear) -> FramedInPlace
     refused(answer, registers, ear.block_start_index)
 }
 
-// What the verdicts say: a refused ear keeps its state and its samples while the other goes on. x is an ear's ring of
-// inputs, y that of its outputs, num and den are the lent rows.
+// What the verdicts say: a refused ear keeps its state and its samples while the other goes on. lx and ly are the left
+// ear's rings of inputs and outputs, lp is its plan, rx, ry and rp are the right ear's; num and den are the lent rows.
 fn carry_verdicts(
     left: Ear,
     lx: &mut [f32],
@@ -59,20 +59,20 @@ fn carry_verdicts(
     let left_verdict = verdicts.left;
     let right_verdict = verdicts.right;
     match left_verdict {
-        Verdict::Refused(l) => match right_verdict {
-            Verdict::Refused(r) => BothFramed {
-                left: refused_ear(l, left),
-                right: refused_ear(r, right),
+        Verdict::Refused(left_answer) => match right_verdict {
+            Verdict::Refused(right_answer) => BothFramed {
+                left: refused_ear(left_answer, left),
+                right: refused_ear(right_answer, right),
             },
             Verdict::Accepted(plan) => BothFramed {
-                left: refused_ear(l, left),
+                left: refused_ear(left_answer, left),
                 right: carry_right(right, rx, ry, plan, num, den, samples),
             },
         },
         Verdict::Accepted(lp) => match right_verdict {
-            Verdict::Refused(r) => BothFramed {
+            Verdict::Refused(right_answer) => BothFramed {
                 left: carry_left(left, lx, ly, lp, num, den, samples),
-                right: refused_ear(r, right),
+                right: refused_ear(right_answer, right),
             },
             Verdict::Accepted(rp) => carry_both(
                 left,

@@ -17,7 +17,7 @@ ghost use Rattle.ears.specs.Both.{namedAlike, twoFrames};
 ghost use Rattle.ears.specs.InPlace.{bothJudged};
 
 // Whether both states name one rate and one duration, fit or not.
-pub(crate) fn named_alike(left: Registers, right: Registers) -> bool
+fn named_alike(left: Registers, right: Registers) -> bool
     ensures { λ r. ⌜ r ≡ namedAlike left right ⌝ }
 {
     if left.rate == right.rate {
@@ -43,7 +43,7 @@ fn is_two_frames(fitted: Configured, count: usize) -> bool
 
 // The verdict on one ear of a buffer of `count` samples: that of a single decoder, but that the number of samples is
 // held to two frames. `finite` is what both share: whether each entry of the set is.
-pub(crate) fn judge_ear(
+fn judge_ear(
     ear: Ear,
     numerators: &[f32],
     denominators: &[f32],

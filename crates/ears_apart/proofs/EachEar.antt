@@ -10,24 +10,24 @@ use Rattle.decoder.specs.Frame.{lostWith, lostFrom}
 use Rattle.decoder.specs.declared.state.Decoder.{Decoder}
 use Rattle.settling.specs.Calls as one
 use Rattle.settling.proofs.FitStates.{started-fit}
-use Rattle.ears_apart.specs.Calls.{Headset, Ear, leftEar, rightEar, own, Rings, Arrays, Call, start, loss, frame, withOwn, after, afterAll, ifOwn, replyTo, repliesTo, EarCall, earStart, earLoss, givenTo, toEar, callsOf, earAfter, earReply, earAfterAll, earReplies}
+use Rattle.ears_apart.specs.Calls.{Headset, WhichEar, leftEar, rightEar, own, Rings, Arrays, Call, start, loss, frame, withOwn, after, afterAll, ifOwn, replyTo, repliesTo, EarCall, earStart, earLoss, givenTo, toEar, callsOf, earAfter, earReply, earAfterAll, earReplies}
 use Rattle.ears_apart.proofs.AsOne.{keeps}
 use Rattle.ears_apart.proofs.Interference.{given-halved, at-exit}
 
 -- one call: of one ear, or a frame
-own-after-one : (e which : Ear) (h : Headset) (c : EarCall) → own e (withOwn which h (earAfter (own which h) c)) ≡ earAfterAll (own e h) (ifOwn e which c)
+own-after-one : (e which : WhichEar) (h : Headset) (c : EarCall) → own e (withOwn which h (earAfter (own which h) c)) ≡ earAfterAll (own e h) (ifOwn e which c)
 own-after-one leftEar leftEar h c = refl
 own-after-one leftEar rightEar h c = refl
 own-after-one rightEar leftEar h c = refl
 own-after-one rightEar rightEar h c = refl
 
-own-after : (e : Ear) (h : Headset) (c : Call) → own e (after h c) ≡ earAfterAll (own e h) (toEar e h c)
+own-after : (e : WhichEar) (h : Headset) (c : Call) → own e (after h c) ≡ earAfterAll (own e h) (toEar e h c)
 own-after e h (start which rate duration) = own-after-one e which h (earStart rate duration)
 own-after e h (loss which) = own-after-one e which h earLoss
 own-after leftEar h (frame f) = refl
 own-after rightEar h (frame f) = refl
 
-reply-one : (e which : Ear) (d : Decoder) (c : EarCall) → ifOwn e which (earReply d c) ≡ earReplies d (ifOwn e which c)
+reply-one : (e which : WhichEar) (d : Decoder) (c : EarCall) → ifOwn e which (earReply d c) ≡ earReplies d (ifOwn e which c)
 reply-one leftEar leftEar d c = refl
 reply-one leftEar rightEar d c = refl
 reply-one rightEar leftEar d c = refl
@@ -41,7 +41,7 @@ replies-both : (d : Decoder) (late early : List EarCall) → earReplies d (late 
 replies-both d [] early = refl
 replies-both d (c ∷ late) early = rw (after-both d late early, replies-both d late early)
 
-pub state-by-itself : (e : Ear) (h : Headset) (calls : List Call) → own e (afterAll h calls) ≡ earAfterAll (own e h) (callsOf e h calls)
+pub state-by-itself : (e : WhichEar) (h : Headset) (calls : List Call) → own e (afterAll h calls) ≡ earAfterAll (own e h) (callsOf e h calls)
 state-by-itself e h [] = refl
 state-by-itself e h (c ∷ earlier) =
     let i = afterAll h earlier in
@@ -60,11 +60,11 @@ lost-rings d r = go (fitDecoder d)
     go (Refused answer) = r
     go (Config c) = record { inputs = r .inputs; outputs = r .outputs }
 
-with-rings : (e : Ear) (h : Headset) (d : Decoder) → Arrays h → Rings d → Arrays (withOwn e h d)
+with-rings : (e : WhichEar) (h : Headset) (d : Decoder) → Arrays h → Rings d → Arrays (withOwn e h d)
 with-rings leftEar h d a r = (r, a .1)
 with-rings rightEar h d a r = (a .0, r)
 
-own-rings : (e : Ear) (h : Headset) → Arrays h → Rings (own e h)
+own-rings : (e : WhichEar) (h : Headset) → Arrays h → Rings (own e h)
 own-rings leftEar h a = a .0
 own-rings rightEar h a = a .1
 
@@ -80,18 +80,18 @@ pub arrays-all : (h : Headset) → Arrays h → (calls : List Call) → Arrays (
 arrays-all h a [] = a
 arrays-all h a (c ∷ earlier) = arrays-after (afterAll h earlier) (arrays-all h a earlier) c
 
-reply-by-itself : (e : Ear) (h : Headset) → Arrays h → (c : Call) → replyTo e h c ≡ earReplies (own e h) (toEar e h c)
+reply-by-itself : (e : WhichEar) (h : Headset) → Arrays h → (c : Call) → replyTo e h c ≡ earReplies (own e h) (toEar e h c)
 reply-by-itself e h a (start which rate duration) = reply-one e which (own e h) (earStart rate duration)
 reply-by-itself e h a (loss which) = reply-one e which (own e h) earLoss
 reply-by-itself e h a (frame f) = ap (λ r. one.replyOf r ∷ []) (at-exit e h a f)
 
-replies-by-itself : (e : Ear) (h : Headset) → Arrays h → (calls : List Call) → repliesTo e h calls ≡ earReplies (own e h) (callsOf e h calls)
+replies-by-itself : (e : WhichEar) (h : Headset) → Arrays h → (calls : List Call) → repliesTo e h calls ≡ earReplies (own e h) (callsOf e h calls)
 replies-by-itself e h a [] = refl
 replies-by-itself e h a (c ∷ earlier) =
     let i = afterAll h earlier in
     rw (reply-by-itself e i (arrays-all h a earlier) c, replies-by-itself e h a earlier, state-by-itself e h earlier)
     (sym (replies-both (own e h) (toEar e i c) (callsOf e h earlier)))
 
-pub ear-by-itself : (e : Ear) (h : Headset) → Arrays h → (calls : List Call) →
+pub ear-by-itself : (e : WhichEar) (h : Headset) → Arrays h → (calls : List Call) →
     (own e (afterAll h calls) ≡ earAfterAll (own e h) (callsOf e h calls)) × (repliesTo e h calls ≡ earReplies (own e h) (callsOf e h calls))
 ear-by-itself e h a calls = (state-by-itself e h calls, replies-by-itself e h a calls)

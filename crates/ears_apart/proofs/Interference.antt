@@ -5,19 +5,23 @@
 -- `as-one-decoder`: where both states name one rate and one duration and the buffer's length is even, each ear has just what the frame of one
 -- decoder gives its own state, record and samples with the set and nbits.
 -- `ears-differ`: where they name different ones both answers are 13, and the states, reports and the buffer are as before.
--- `refused-ear-keeps`: an ear whose answer is not 0 keeps its state and its samples, whatever the other ear's part did.
-use Prim.Native.Nat.{ℕ, _*_}
+-- `refused-ear-keeps`: an ear whose answer is not 0 keeps its state, its report and its samples, whatever the other ear's part did.
+-- `odd-buffer`: in a buffer of odd length an ear whose names are alike, whose state is fit and whose set is good is answered 5.
+use Prim.Native.Nat.{ℕ, _+_, _*_}
 use mathlib.Core.Path.{_≡_, refl, sym, _∙_, ap}
 use mathlib.Core.Bool.{Bool, true, false}
 use mathlib.Core.List.{List}
 use native.Mathlib.Omega.{arith}
-use borrow.Author.Tests.{eqb-true, eq-eqb}
+use borrow.Author.Tests.{eqb-true, eq-eqb, ne-eqb}
 use lib.Dec.{eqb}
 use lib.Ieee.{Float}
 use lib.ListN.{length}
 use Rattle.rates.specs.Answers.{numberOf}
+use Rattle.rates.specs.declared.config.Lc3Config.{Lc3Config}
+use Rattle.rates.specs.declared.config.Configured.the-variants.{Config}
 use Rattle.rates.proofs.Known.{both}
 use Rattle.lag.specs.declared.pitch.PitchRecord.{PitchRecord}
+use Rattle.control.specs.Judge.{setCounts, setFinite}
 use Rattle.control.specs.declared.judge.Verdict.{Verdict}
 use Rattle.control.specs.declared.judge.Verdict.the-variants.{Refused, Accepted}
 use Rattle.decoder.specs.State.{fitDecoder}
@@ -26,13 +30,16 @@ use Rattle.decoder.specs.declared.state.Decoder.{Decoder}
 use Rattle.decoder.specs.declared.frame.Framed.{Framed}
 use Rattle.ears.specs.Turns.{lefts, rights}
 use Rattle.ears.specs.Both.{namedAlike, earFramed, bothFramed}
-use Rattle.ears_apart.specs.Calls.{Headset, Ear, leftEar, rightEar, own, Rings, Arrays, Given, framedBoth, frame, after, samplesOf, pitchOf, partOf, EarGiven, givenTo, earFramedBy}
+use Rattle.ears_apart.specs.Calls.{Headset, WhichEar, leftEar, rightEar, own, Rings, Arrays, Given, framedBoth, frame, after, samplesOf, pitchOf, partOf, EarGiven, givenTo, earFramedBy}
 use Rattle.ears.proofs.Buffers.{turned, taken-apart, lengths, halves}
-use Rattle.ears_apart.proofs.AsOne.{Halved, onVerdict, verdictOn, by-verdict, whole-framed, keeps}
+use Rattle.ears_apart.proofs.AsOne.{Halved, onVerdict, verdictOn, by-verdict, whole-framed, other-framed, keeps}
 
 -- the two states name one rate and one duration
 abbrev pub NamedAlike : Headset → Type 0
 NamedAlike h = (h .left .registers .rate ≡ h .right .registers .rate) × (h .left .registers .duration ≡ h .right .registers .duration)
+
+named-alike : (h : Headset) → NamedAlike h → namedAlike (h .left .registers) (h .right .registers) ≡ true
+named-alike h n = rw (eq-eqb (h .left .registers .rate) (h .right .registers .rate) (n .0), eq-eqb (h .left .registers .duration) (h .right .registers .duration) (n .1))
 
 not-true : (b : Bool) → (b ≡ true → ⊥) → b ≡ false
 not-true true n = absurd (n refl)
@@ -47,20 +54,21 @@ named-differ h n =
     n (eqb-true (l .rate) (r .rate) (k .0), eqb-true (l .duration) (r .duration) (k .1)))
 
 ear-refused : (d : Decoder) (g : EarGiven) → (numberOf (earFramedBy d g .0 .answer) ≡ 0 → ⊥) →
-    (earFramedBy d g .0 .decoder ≡ d) × (earFramedBy d g .1 ≡ g .samples)
+    (earFramedBy d g .0 .decoder ≡ d) × (earFramedBy d g .0 .settled ≡ d .registers .settled) × (earFramedBy d g .1 ≡ g .samples)
 ear-refused d g n = go (verdictOn g (g .shared .alike) (d .registers) (fitDecoder d)) (by-verdict d g)
   where
-    go : (v : Verdict) → earFramedBy d g ≡ onVerdict d g v → (earFramedBy d g .0 .decoder ≡ d) × (earFramedBy d g .1 ≡ g .samples)
-    go (Refused answer) e = rw e (refl, refl)
+    go : (v : Verdict) → earFramedBy d g ≡ onVerdict d g v →
+        (earFramedBy d g .0 .decoder ≡ d) × (earFramedBy d g .0 .settled ≡ d .registers .settled) × (earFramedBy d g .1 ≡ g .samples)
+    go (Refused answer) e = rw e (refl, refl, refl)
     go (Accepted plan) e = absurd (n (rw e))
 
 -- an ear's samples are half of an even buffer
-pub given-halved : (e : Ear) (h : Headset) (f : Given) → Halved (givenTo e h f)
+pub given-halved : (e : WhichEar) (h : Headset) (f : Given) → Halved (givenTo e h f)
 given-halved leftEar h f n e = halves (f .samples) n e .0
 given-halved rightEar h f n e = halves (f .samples) n e .1
 
 -- what an ear has of a frame of both is what its own frame gives
-pub at-exit : (e : Ear) (h : Headset) → Arrays h → (f : Given) → partOf e (framedBoth h f) ≡ earFramedBy (own e h) (givenTo e h f)
+pub at-exit : (e : WhichEar) (h : Headset) → Arrays h → (f : Given) → partOf e (framedBoth h f) ≡ earFramedBy (own e h) (givenTo e h f)
 at-exit e h r f = go e
   where
     apart : (lefts (framedBoth h f .2) ≡ earFramedBy (h .left) (givenTo leftEar h f) .1) × (rights (framedBoth h f .2) ≡ earFramedBy (h .right) (givenTo rightEar h f) .1)
@@ -70,11 +78,11 @@ at-exit e h r f = go e
         let all = lengths (f .samples) in
         taken-apart _ _ (omega arith) (omega arith)
 
-    go : (e : Ear) → partOf e (framedBoth h f) ≡ earFramedBy (own e h) (givenTo e h f)
+    go : (e : WhichEar) → partOf e (framedBoth h f) ≡ earFramedBy (own e h) (givenTo e h f)
     go leftEar = rw (apart .0)
     go rightEar = rw (apart .1)
 
-alone : (e : Ear) (h i : Headset) → Arrays h → Arrays i → (f g : Given) → own e h ≡ own e i → givenTo e h f ≡ givenTo e i g →
+alone : (e : WhichEar) (h i : Headset) → Arrays h → Arrays i → (f g : Given) → own e h ≡ own e i → givenTo e h f ≡ givenTo e i g →
     partOf e (framedBoth h f) ≡ partOf e (framedBoth i g)
 alone e h i r q f g o same = at-exit e h r f ∙ ap (λ d. earFramedBy d (givenTo e h f)) o ∙ ap (earFramedBy (own e i)) same ∙ sym (at-exit e i q g)
 
@@ -97,21 +105,35 @@ module _ (numerators denominators : List Float) (nbits : ℕ) (pl pr : PitchReco
       (record { numerators = numerators; denominators = denominators; left-pitch = pq; right-pitch = pr; nbits = nbits; samples = c })
       refl (rw (hz, us, long, s))
 
-pub as-one-decoder : (e : Ear) (h : Headset) → Arrays h → NamedAlike h → (f : Given) (k : ℕ) → length (f .samples) ≡ 2 * k →
+pub as-one-decoder : (e : WhichEar) (h : Headset) → Arrays h → NamedAlike h → (f : Given) (k : ℕ) → length (f .samples) ≡ 2 * k →
     partOf e (framedBoth h f) ≡
     framed (own e h) (f .numerators) (f .denominators) (record { pitch = pitchOf e f; nbits = f .nbits }) (samplesOf e (f .samples))
 as-one-decoder e h r n f k even =
     let half = given-halved e h f k even in
     at-exit e h r f ∙ whole-framed (givenTo e h f) (own e h) (rw (
-      eq-eqb (h .left .registers .rate) (h .right .registers .rate) (n .0),
-      eq-eqb (h .left .registers .duration) (h .right .registers .duration) (n .1),
+      named-alike h n,
       eq-eqb (length (f .samples)) (2 * length (samplesOf e (f .samples))) (omega arith),
     ))
 
-pub refused-ear-keeps : (e : Ear) (h : Headset) → Arrays h → (f : Given) → (numberOf (partOf e (framedBoth h f) .0 .answer) ≡ 0 → ⊥) →
-    (own e (after h (frame f)) ≡ own e h) × (samplesOf e (framedBoth h f .2) ≡ samplesOf e (f .samples))
-refused-ear-keeps leftEar h r f n = let k = ear-refused (h .left) (givenTo leftEar h f) n in (k .0, ap (λ (p : Framed × List Float). p .1) (at-exit leftEar h r f) ∙ k .1)
-refused-ear-keeps rightEar h r f n = let k = ear-refused (h .right) (givenTo rightEar h f) n in (k .0, ap (λ (p : Framed × List Float). p .1) (at-exit rightEar h r f) ∙ k .1)
+pub refused-ear-keeps : (e : WhichEar) (h : Headset) → Arrays h → (f : Given) → (numberOf (partOf e (framedBoth h f) .0 .answer) ≡ 0 → ⊥) →
+    (own e (after h (frame f)) ≡ own e h) × (partOf e (framedBoth h f) .0 .settled ≡ own e h .registers .settled) ×
+    (samplesOf e (framedBoth h f .2) ≡ samplesOf e (f .samples))
+refused-ear-keeps leftEar h r f n =
+    let k = ear-refused (h .left) (givenTo leftEar h f) n in (k .0, k .1, ap (λ (p : Framed × List Float). p .1) (at-exit leftEar h r f) ∙ k .2)
+refused-ear-keeps rightEar h r f n =
+    let k = ear-refused (h .right) (givenTo rightEar h f) n in (k .0, k .1, ap (λ (p : Framed × List Float). p .1) (at-exit rightEar h r f) ∙ k .2)
+
+pub odd-buffer : (e : WhichEar) (h : Headset) → Arrays h → NamedAlike h → (f : Given) (k : ℕ) → length (f .samples) ≡ 2 * k + 1 →
+    (c : Lc3Config) → fitDecoder (own e h) ≡ Config c → setCounts c (f .numerators) (f .denominators) ≡ true → setFinite (f .numerators) (f .denominators) ≡ true →
+    numberOf (partOf e (framedBoth h f) .0 .answer) ≡ 5
+odd-buffer e h r n f k odd c fit counts finite =
+    let half : length (f .samples) ≡ 2 * length (samplesOf e (f .samples)) → ⊥ = λ q. omega arith in
+    let g = givenTo e h f in
+    ap (λ (p : Framed × List Float). numberOf (p .0 .answer)) (at-exit e h r f ∙ other-framed g (own e h) (given-halved e h f) (rw (
+      named-alike h n,
+      ne-eqb (length (f .samples)) (2 * length (samplesOf e (f .samples))) half,
+    )))
+    ∙ rw (named-alike h n, fit, counts, finite)
 
 pub ears-differ : (h : Headset) → (NamedAlike h → ⊥) → (f : Given) →
     (numberOf (framedBoth h f .0 .answer) ≡ 13) × (numberOf (framedBoth h f .1 .answer) ≡ 13) × (after h (frame f) ≡ h) ×

@@ -16,7 +16,7 @@ use Rattle.decoder.specs.declared.state.Decoder.{Decoder}
 use Rattle.decoder.specs.declared.frame.Framed.{Framed}
 use Rattle.settling.specs.Calls as one
 use Rattle.settling.proofs.FitStates.{started-fit, after-lost, unsettled-fit, framed-fit}
-use Rattle.ears_apart.specs.Calls.{Headset, Ear, leftEar, rightEar, Call, start, loss, frame, afterAll, ifOwn, EarGiven, EarCall, earStart, earLoss, earFrame, toEar, callsOf, earAfter, earEvent, earAfterAll, earEvents}
+use Rattle.ears_apart.specs.Calls.{Headset, WhichEar, leftEar, rightEar, Call, start, loss, frame, afterAll, ifOwn, EarGiven, EarCall, earStart, earLoss, earFrame, toEar, callsOf, earAfter, earEvent, earAfterAll, earEvents}
 use Rattle.ears_apart.proofs.AsOne.{Halved, whole, asOne, refusal-some, whole-framed, other-framed}
 use Rattle.ears_apart.proofs.Interference.{given-halved}
 
@@ -87,7 +87,7 @@ stand d f (c ∷ earlier) h =
     }
 
 -- what calls of both ears are to an ear is such a list
-if-sound : (e which : Ear) (c : EarCall) → Sound c → AllSound (ifOwn e which c)
+if-sound : (e which : WhichEar) (c : EarCall) → Sound c → AllSound (ifOwn e which c)
 if-sound leftEar leftEar c h = (h, tt)
 if-sound leftEar rightEar c h = tt
 if-sound rightEar leftEar c h = tt
@@ -97,7 +97,7 @@ sound-both : (late early : List EarCall) → AllSound late → AllSound early �
 sound-both [] early l k = k
 sound-both (c ∷ late) early l k = (l .0, sound-both late early (l .1) k)
 
-module _ (e : Ear) where
+module _ (e : WhichEar) where
   to-sound : (h : Headset) (c : Call) → AllSound (toEar e h c)
   to-sound h (start which rate duration) = if-sound e which (earStart rate duration) tt
   to-sound h (loss which) = if-sound e which earLoss tt

@@ -5,7 +5,7 @@
 -- `ear-agreement`: Take the same ear of any two headsets, fit, of the same rate and duration. Give the headsets calls until that ear of each has
 -- accepted the limit's number of inactive frames in a row, with no start and no loss mark of its own; refused frames may be in between. If the
 -- ear's samples of those inactive frames were the same, then all later calls that are the same frames to that ear (what the ears share, and that
--- ear's record and samples) give it the same answers, settled reports and sample bits. What the other ears are given is free.
+-- ear's record and samples) give it the same answers, settled reports and sample bits. What else the other ears are given is free.
 use Prim.Native.Nat.{ℕ}
 use mathlib.Core.Path.{_≡_, refl, sym, _∙_, ap, subst}
 use mathlib.Core.Bool.{Bool, true, false}
@@ -22,7 +22,7 @@ use Rattle.settling.proofs.Following.{reports-mark}
 use Rattle.settling.proofs.SettledExactly.{marked-exactly}
 use Rattle.settling.proofs.Agreeing.{Agree, agree-frames, same-replies}
 use Rattle.settling.proofs.Agreement.{same-config, settled-alike}
-use Rattle.ears_apart.specs.Calls.{Headset, Ear, leftEar, rightEar, own, Arrays, Call, start, loss, frame, withOwn, after, afterAll, ifOwn, replyTo, repliesTo, EarGiven, earFrame, givenTo, callsOf, earFramedBy, earReply, earAfterAll, earReplies, eventsTo, EarsSettleAlike}
+use Rattle.ears_apart.specs.Calls.{Headset, WhichEar, leftEar, rightEar, own, Arrays, Call, start, loss, frame, withOwn, after, afterAll, ifOwn, replyTo, repliesTo, EarGiven, earFrame, givenTo, callsOf, earFramedBy, earReply, earAfterAll, earReplies, eventsTo, EarsSettleAlike}
 use Rattle.ears_apart.proofs.AsOne.{Halved, whole, asOne, onVerdict, verdictOn, by-verdict, whole-framed, other-framed}
 use Rattle.ears_apart.proofs.EachEar.{state-by-itself, arrays-all, ear-by-itself}
 use Rattle.ears_apart.proofs.OneCalls.{oneGiven, oneCall, AllSound, same-call, Stand, stand, all-sound}
@@ -39,14 +39,14 @@ only : {x r : one.Reply} → x ∷ [] ≡ r ∷ [] → x ≡ r
 only q = cc
 
 -- and so does each call of both ears, to an ear that it gives a reply
-one-reports : (e which : Ear) (h : Headset) (next : Decoder → Decoder) (x r : one.Reply) → x .settled ≡ next (own e h) .registers .settled →
+one-reports : (e which : WhichEar) (h : Headset) (next : Decoder → Decoder) (x r : one.Reply) → x .settled ≡ next (own e h) .registers .settled →
     ifOwn e which x ≡ r ∷ [] → r .settled ≡ own e (withOwn which h (next (own which h))) .registers .settled
 one-reports leftEar leftEar h next x r m q = rw (← only q) m
 one-reports leftEar rightEar h next x r m q = let z : _≡_ {A = ℕ} 0 1 = cc in absurd (omega arith)
 one-reports rightEar leftEar h next x r m q = let z : _≡_ {A = ℕ} 0 1 = cc in absurd (omega arith)
 one-reports rightEar rightEar h next x r m q = rw (← only q) m
 
-call-reports : (e : Ear) (h : Headset) → one.Fit (own e h) → (c : Call) (r : one.Reply) → replyTo e h c ≡ r ∷ [] →
+call-reports : (e : WhichEar) (h : Headset) → one.Fit (own e h) → (c : Call) (r : one.Reply) → replyTo e h c ≡ r ∷ [] →
     r .settled ≡ own e (after h c) .registers .settled
 call-reports e h k (start which rate duration) r q =
     one-reports e which h (λ d. one.after d (one.start rate duration)) (one.reply (own e h) (one.start rate duration)) r refl q
@@ -56,7 +56,7 @@ call-reports leftEar h k (frame f) r q = ap (λ (x : one.Reply). x .settled) (sy
 call-reports rightEar h k (frame f) r q = ap (λ (x : one.Reply). x .settled) (sym (only q)) ∙ frame-reports (h .right) (givenTo rightEar h f)
 
 -- an ear that was started, beside any other
-module _ (e : Ear) (h : Headset) (rate duration : ℕ) (from : own e h ≡ started rate duration .decoder) where
+module _ (e : WhichEar) (h : Headset) (rate duration : ℕ) (from : own e h ≡ started rate duration .decoder) where
   fit-from : one.Fit (own e h)
   fit-from = rw from (started-fit rate duration)
 
@@ -101,7 +101,7 @@ module _ (c : Lc3Config) where
         rw (same-frame x y (rest .0) g (h .0), rest .1),
       )
 
-pub ear-agreement : (e : Ear) (a b : Headset) → Arrays a → Arrays b → one.Fit (own e a) → one.Fit (own e b) →
+pub ear-agreement : (e : WhichEar) (a b : Headset) → Arrays a → Arrays b → one.Fit (own e a) → one.Fit (own e b) →
     own e a .registers .rate ≡ own e b .registers .rate → own e a .registers .duration ≡ own e b .registers .duration →
     (calls-a calls-b : List Call) → EarsSettleAlike e a b calls-a calls-b →
     (later-a later-b : List Call) (later : List EarGiven) →
@@ -117,8 +117,8 @@ ear-agreement e a b ra rb fa fb hz us calls-a calls-b q later-a later-b later la
     (settled-alike (fa .0) (own e a) (own e b) (fa .1) (same-config (own e a) (own e b) fa fb hz us)
     (map oneCall (callsOf e a calls-a)) (map oneCall (callsOf e b calls-b))
     (record {
-      left = rw (← ka .events) (q .left);
-      right = rw (← kb .events) (q .right);
+      left = rw (← ka .events) (q .first);
+      right = rw (← kb .events) (q .second);
       same = rw (← ka .events, ← kb .events) (q .same);
       many = rw (← ka .events) (q .many);
     })) in

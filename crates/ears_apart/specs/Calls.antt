@@ -20,12 +20,12 @@ pub record Headset : Type 0 where
   pub left : Decoder
   pub right : Decoder
 
-pub data Ear : Type 0 where
-  leftEar : Ear
-  rightEar : Ear
+pub data WhichEar : Type 0 where
+  leftEar : WhichEar
+  rightEar : WhichEar
 
 -- an ear's state
-abbrev pub own : Ear → Headset → Decoder
+abbrev pub own : WhichEar → Headset → Decoder
 own leftEar h = h .left
 own rightEar h = h .right
 
@@ -48,8 +48,8 @@ pub record Given : Type 0 where
 
 -- a call: a start of one ear with a rate and a duration, a loss mark of one ear, or a frame of both
 pub data Call : Type 0 where
-  start : Ear → ℕ → ℕ → Call
-  loss : Ear → Call
+  start : WhichEar → ℕ → ℕ → Call
+  loss : WhichEar → Call
   frame : Given → Call
 
 -- what a frame gives both ears, and the buffer at exit
@@ -57,7 +57,7 @@ abbrev pub framedBoth : Headset → Given → Framed × Framed × List Float
 framedBoth h f = bothFramed (h .left) (h .right) (f .numerators) (f .denominators) (f .left-pitch) (f .right-pitch) (f .nbits) (f .samples)
 
 -- the states with another one for one ear
-abbrev pub withOwn : Ear → Headset → Decoder → Headset
+abbrev pub withOwn : WhichEar → Headset → Decoder → Headset
 withOwn leftEar h d = record { left = d; right = h .right }
 withOwn rightEar h d = record { left = h .left; right = d }
 
@@ -71,32 +71,32 @@ abbrev pub afterAll : Headset → List Call → Headset
 afterAll h calls = foldr (λ c before. after before c) h calls
 
 -- an ear's part of a buffer, of a frame, and of what a frame gives
-abbrev pub samplesOf : Ear → List Float → List Float
+abbrev pub samplesOf : WhichEar → List Float → List Float
 samplesOf leftEar buffer = lefts buffer
 samplesOf rightEar buffer = rights buffer
 
-abbrev pub pitchOf : Ear → Given → PitchRecord
+abbrev pub pitchOf : WhichEar → Given → PitchRecord
 pitchOf leftEar f = f .left-pitch
 pitchOf rightEar f = f .right-pitch
 
-abbrev pub partOf : Ear → Framed × Framed × List Float → Framed × List Float
+abbrev pub partOf : WhichEar → Framed × Framed × List Float → Framed × List Float
 partOf leftEar r = (r .0, lefts (r .2))
 partOf rightEar r = (r .1, rights (r .2))
 
 -- what a call of an ear gives one ear: nothing, if it is the other
-abbrev pub ifOwn : {A : Type 0} → Ear → Ear → A → List A
+abbrev pub ifOwn : {A : Type 0} → WhichEar → WhichEar → A → List A
 ifOwn leftEar leftEar x = x ∷ []
 ifOwn leftEar rightEar x = []
 ifOwn rightEar leftEar x = []
 ifOwn rightEar rightEar x = x ∷ []
 
 -- the reply that an ear gets from a call, if any: the answer, the settled report, and its samples in the buffer at exit
-abbrev pub replyTo : Ear → Headset → Call → List one.Reply
+abbrev pub replyTo : WhichEar → Headset → Call → List one.Reply
 replyTo e h (start which rate duration) = ifOwn e which (one.reply (own e h) (one.start rate duration))
 replyTo e h (loss which) = ifOwn e which (one.reply (own e h) one.loss)
 replyTo e h (frame f) = one.replyOf (partOf e (framedBoth h f)) ∷ []
 
-abbrev pub repliesTo : Ear → Headset → List Call → List one.Reply
+abbrev pub repliesTo : WhichEar → Headset → List Call → List one.Reply
 repliesTo e h [] = []
 repliesTo e h (c ∷ earlier) = replyTo e (afterAll h earlier) c ++ repliesTo e h earlier
 
@@ -112,20 +112,20 @@ pub data EarCall : Type 0 where
   earLoss : EarCall
   earFrame : EarGiven → EarCall
 
-abbrev pub givenTo : Ear → Headset → Given → EarGiven
+abbrev pub givenTo : WhichEar → Headset → Given → EarGiven
 givenTo e h f = record {
   shared = sharedBy (h .left) (h .right) (f .numerators) (f .denominators) (f .nbits) (f .samples);
   pitch = pitchOf e f;
   samples = samplesOf e (f .samples);
 }
 
--- the other ear's start or loss mark is nothing to this ear
-abbrev pub toEar : Ear → Headset → Call → List EarCall
+-- the other ear's start or loss mark is no call of this ear; what its state names then, later frames share
+abbrev pub toEar : WhichEar → Headset → Call → List EarCall
 toEar e h (start which rate duration) = ifOwn e which (earStart rate duration)
 toEar e h (loss which) = ifOwn e which earLoss
 toEar e h (frame f) = earFrame (givenTo e h f) ∷ []
 
-abbrev pub callsOf : Ear → Headset → List Call → List EarCall
+abbrev pub callsOf : WhichEar → Headset → List Call → List EarCall
 callsOf e h [] = []
 callsOf e h (c ∷ earlier) = toEar e (afterAll h earlier) c ++ callsOf e h earlier
 
@@ -161,13 +161,13 @@ earEvents d [] = []
 earEvents d (c ∷ earlier) = earEvent (earAfterAll d earlier) c ∷ earEvents d earlier
 
 -- what calls of both ears were to one ear
-abbrev pub eventsTo : Ear → Headset → List Call → List one.Event
+abbrev pub eventsTo : WhichEar → Headset → List Call → List one.Event
 eventsTo e h calls = earEvents (own e h) (callsOf e h calls)
 
 -- The same ear of two headsets has accepted the limit's number of inactive frames in a row, with no start and no loss mark of its own, each with
 -- refused frames of its own in between, and the ear's samples of those inactive frames were the same.
-pub record EarsSettleAlike (e : Ear) (a b : Headset) (calls-a calls-b : List Call) : Type 0 where
-  pub left : one.still (eventsTo e a calls-a) ≡ true
-  pub right : one.still (eventsTo e b calls-b) ≡ true
+pub record EarsSettleAlike (e : WhichEar) (a b : Headset) (calls-a calls-b : List Call) : Type 0 where
+  pub first : one.still (eventsTo e a calls-a) ≡ true
+  pub second : one.still (eventsTo e b calls-b) ≡ true
   pub same : one.heard (eventsTo e a calls-a) ≡ one.heard (eventsTo e b calls-b)
   pub many : length (one.heard (eventsTo e a calls-a)) ≡ one.limitOf (own e a)

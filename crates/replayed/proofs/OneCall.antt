@@ -6,7 +6,7 @@ use mathlib.Core.Bool.{Bool, true, false, true≢false}
 use native.Mathlib.Omega.{arith}
 use lib.Dec.{leb}
 use lib.ListN.{length-replicate, replicate}
-use Rattle.floats.specs.Single.{0·0}
+use Rattle.floats.specs.Single.{0·0, allInRange}
 use Rattle.rates.specs.Table.{row, find}
 use Rattle.rates.specs.Configs.{configOf}
 use Rattle.rates.specs.declared.answer.Answer.the-variants.{TooManyBits}
@@ -23,7 +23,7 @@ use Rattle.coefficients.specs.Coefficients.{tapsOf, newTaps}
 use Rattle.coefficients.specs.declared.Taps.{Taps}
 use Rattle.control.specs.Pitch.{isActive, noLag, lagWhere, lagFor}
 use Rattle.control.specs.State.{fitWith, fitConfig}
-use Rattle.control.specs.Judge.{unless, planOf, lagJudged, judgedSide, rangeJudged, judged}
+use Rattle.control.specs.Judge.{unless, planOf, lagJudged, judgedSide, rangeBy, judged}
 use Rattle.control.specs.Next.{nextRegisters}
 use Rattle.control.specs.declared.registers.Registers.{Registers}
 use Rattle.control.specs.declared.judge.SideInfo.{SideInfo}
@@ -97,7 +97,7 @@ bare-side r side = go (leb (side .nbits) 3200) (lagFor (config .fs) (side .pitch
     go true (FoundLag.Lag lag) = refl
 
 -- and samples of 0.0 are in range
-in-range : (v : Verdict) → rangeJudged (replicate 480 0·0) v ≡ v
+in-range : (v : Verdict) → rangeBy (allInRange (replicate 480 0·0)) v ≡ v
 in-range (Verdict.Refused answer) = refl
 in-range (Verdict.Accepted plan) = rw (range-zeros 480)
 

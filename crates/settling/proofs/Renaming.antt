@@ -26,7 +26,7 @@ use Rattle.lag.specs.declared.rescale.FoundLag.{FoundLag}
 use Rattle.coefficients.specs.Coefficients.{tapsOf, newTaps}
 use Rattle.control.specs.Pitch.{isActive, lagWhere, lagFor}
 use Rattle.control.specs.State.{lagFits, fit, fitWith}
-use Rattle.control.specs.Judge.{unless, setCounts, setFinite, planOf, lagJudged, judgedSide, rangeJudged, judged}
+use Rattle.control.specs.Judge.{unless, setCounts, setFinite, planOf, lagJudged, judgedSide, rangeBy, judged}
 use Rattle.control.specs.Next.{nextRegisters}
 use Rattle.control.specs.declared.judge.Verdict.{Verdict}
 use Rattle.control.specs.declared.judge.Verdict.the-variants.{Accepted}
@@ -102,14 +102,14 @@ module _ (hz : ℕ) (d : Decoder) (f : Given) where
   unfolding accepted filtered nextRegisters
   accepted-as c lag = rw (taps-as hz (c .fs) (isActive (f .side .pitch)) (planOf (d .registers) c (f .side) lag .gain) lag (f .numerators) (f .denominators))
 
-  side-as : (c : Lc3Config) → Same (rangeJudged (f .samples) (judgedSide (renamed hz d .registers) (config-as hz c) (f .side)))
-      (rangeJudged (f .samples) (judgedSide (d .registers) c (f .side)))
+  side-as : (c : Lc3Config) → Same (rangeBy (allInRange (f .samples)) (judgedSide (renamed hz d .registers) (config-as hz c) (f .side)))
+      (rangeBy (allInRange (f .samples)) (judgedSide (d .registers) c (f .side)))
   unfolding judgedSide
   side-as c = rw (lag-for-as hz (c .fs) (f .side .pitch)) (go (leb (f .side .nbits) 3200) (lagFor (c .fs) (f .side .pitch)))
     where
       go : (b : Bool) (l : FoundLag) →
-          Same (rangeJudged (f .samples) (unless b TooManyBits (lagJudged (renamed hz d .registers) (config-as hz c) (f .side) l)))
-          (rangeJudged (f .samples) (unless b TooManyBits (lagJudged (d .registers) c (f .side) l)))
+          Same (rangeBy (allInRange (f .samples)) (unless b TooManyBits (lagJudged (renamed hz d .registers) (config-as hz c) (f .side) l)))
+          (rangeBy (allInRange (f .samples)) (unless b TooManyBits (lagJudged (d .registers) c (f .side) l)))
       go false l = refl
       go true FoundLag.IndexTooLarge = refl
       go true (FoundLag.Lag lag) = tested (allInRange (f .samples)) SampleOutOfRange _ _ (accepted-as c lag)
