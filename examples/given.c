@@ -94,6 +94,34 @@ uint32_t nabiteke_decoder_frame_(uint32_t *numbers, float *kept, float *inputs, 
     return NABITEKE_DONE;
 }
 
+/* The Rust has one ear only: the samples are parted, and those of each go through a decoder of its own. */
+void nabiteke_decoder_frame_both_(uint32_t *left_numbers, float *left_kept, float *left_inputs, float *left_outputs,
+                                  uint32_t *right_numbers, float *right_kept, float *right_inputs,
+                                  float *right_outputs, const float *numerators, size_t numerator_count,
+                                  const float *denominators, size_t denominator_count, const uint32_t *sides,
+                                  float *samples, size_t sample_count, uint32_t *answers)
+{
+    float left[480], right[480];
+    const size_t count = sample_count / 2;
+    size_t n;
+    if (sample_count % 2 != 0 || count > 480)
+        exit(1);
+    for (n = 0; n < count; n++) {
+        left[n] = samples[2 * n];
+        right[n] = samples[2 * n + 1];
+    }
+    answers[0] = nabiteke_decoder_frame_(left_numbers, left_kept, left_inputs, left_outputs, numerators,
+                                         numerator_count, denominators, denominator_count, sides[0], sides[1],
+                                         sides[2], sides[6], left, count);
+    answers[1] = nabiteke_decoder_frame_(right_numbers, right_kept, right_inputs, right_outputs, numerators,
+                                         numerator_count, denominators, denominator_count, sides[3], sides[4],
+                                         sides[5], sides[6], right, count);
+    for (n = 0; n < count; n++) {
+        samples[2 * n] = left[n];
+        samples[2 * n + 1] = right[n];
+    }
+}
+
 uint32_t nabiteke_decoder_lost_(uint32_t *numbers)
 {
     numbers[RUN] = numbers[SETTLED] = 0;

@@ -49,8 +49,8 @@
  *
  * Stack
  *
- *   No call takes more than NABITEKE_STACK bytes of stack, arguments included: measured at every rate and duration and in
- *   all five transitions (examples/tests/stack.c).
+ *   No call takes more than NABITEKE_STACK bytes of stack, arguments included: measured at every rate and duration and
+ *   in all five transitions, of both ears in every pair of them and with one ear refused (examples/tests/stack.c).
  */
 #ifndef NABITEKE_H
 #define NABITEKE_H
@@ -65,7 +65,7 @@
    48000 gives; since 1.2.0 a pitch can be packed; since 1.3.0 both ears can be decoded in one call. */
 #define NABITEKE_VERSION (NABITEKE_VERSION_MAJOR * 10000 + NABITEKE_VERSION_MINOR * 100 + NABITEKE_VERSION_PATCH)
 
-#define NABITEKE_STACK 12288
+#define NABITEKE_STACK 14336
 
 #ifdef __cplusplus
 extern "C" {
@@ -90,7 +90,8 @@ enum nabiteke_answer {
     NABITEKE_BYTE_COUNT = 15   /* a packed pitch has too little room, or its bytes end early */
 };
 
-/* A decoder's state: 8768 bytes, aligned to 4. Its members are private: copy the whole struct or leave it alone. */
+/* A decoder's state: 8768 bytes, aligned to 4. Its members are private: copy the whole struct or leave it alone.
+   Two ears are two of these structs, 17536 bytes. */
 typedef struct nabiteke_decoder {
     uint32_t numbers[8];
     float kept[24];
