@@ -9,7 +9,7 @@ use rates::config::config;
 use rates::duration::FrameDuration;
 use rates::table::Rate;
 ghost use mathlib.Core.Path.{_≡_};
-ghost use Rattle.control.specs.State.{settledLimit, lagFits, runFits, fitConfig};
+ghost use Rattle.control.specs.State.{settledLimit, lagFits, runFits, fitWith, fitConfig};
 
 // How many inactive frames in a row settle a decoder.
 pub(crate) fn settled_limit(n_ms: FrameDuration) -> u32
@@ -56,11 +56,11 @@ fn run_fits(n_ms: FrameDuration, active: bool, run: u32, settled: bool) -> bool
     false
 }
 
-// The configuration of fit registers. Unfit ones are refused.
-pub fn fit_config(registers: Registers) -> Configured
-    ensures { λ r. ⌜ r ≡ fitConfig registers ⌝ }
+// The configuration of fit registers, where that of their names is found already. Unfit ones are refused.
+pub fn fit_as(registers: Registers, named: Configured) -> Configured
+    ensures { λ r. ⌜ r ≡ fitWith registers named ⌝ }
 {
-    let Configured::Config(config) = config(registers.rate, registers.duration) else {
+    let Configured::Config(config) = named else {
         return Configured::Refused(Answer::UnfitState);
     };
     let fs = config.fs;
@@ -74,4 +74,12 @@ pub fn fit_config(registers: Registers) -> Configured
         return Configured::Refused(Answer::UnfitState);
     }
     Configured::Config(config)
+}
+
+// The configuration of fit registers.
+pub fn fit_config(registers: Registers) -> Configured
+    ensures { λ r. ⌜ r ≡ fitConfig registers ⌝ }
+{
+    let named = config(registers.rate, registers.duration);
+    fit_as(registers, named)
 }

@@ -7,14 +7,14 @@ use control::judge::Verdict;
 use control::judge::judge_tested;
 use control::lent::set_finite;
 use control::registers::Registers;
-use decoder::fitness::fit_ring;
+use decoder::fitness::fit_ring_as;
 use rates::answer::Answer;
 use rates::config::Configured;
+use rates::config::config;
 ghost use mathlib.Core.Path.{_≡_};
-ghost use Rattle.control.specs.Judge.{judgedBy, countedBy};
-ghost use Rattle.decoder.specs.State.{fitRing};
+ghost use Rattle.control.specs.Judge.{countedBy};
 ghost use Rattle.ears.specs.Both.{namedAlike, twoFrames};
-ghost use Rattle.ears.specs.InPlace.{bothJudged};
+ghost use Rattle.ears.specs.InPlace.{alikeJudged, bothJudged};
 
 // Whether both states name one rate and one duration, fit or not.
 fn named_alike(left: Registers, right: Registers) -> bool
@@ -41,30 +41,25 @@ fn is_two_frames(fitted: Configured, count: usize) -> bool
     }
 }
 
-// The verdict on one ear of a buffer of `count` samples: that of a single decoder, but that the number of samples is
-// held to two frames. `finite` is what both share: whether each entry of the set is.
-fn judge_ear(
-    ear: Ear,
-    numerators: &[f32],
-    denominators: &[f32],
-    nbits: u32,
-    finite: bool,
-    count: usize,
-    ranged: bool,
-) -> Verdict
-    ensures { λ r. ⌜ r ≡ judgedBy (ear .registers) (now (numerators .entry)) (now (denominators .entry)) (record { pitch = ear .pitch; nbits = nbits }) (record { finite = finite; counted = countedBy (twoFrames count) (fitRing (ear .registers) (ear .«block_start_index»)); ranged = ranged }) (fitRing (ear .registers) (ear .«block_start_index»)) ⌝ }
+// What the tests of an ear give: a single decoder's, but that the number of samples is held to two frames. `finite` is
+// whether each entry of the set is, which both ears share.
+fn tests_of(fitted: Configured, finite: bool, count: usize, ranged: bool) -> Tested
+    ensures { λ r. ⌜ r ≡ record { finite = finite; counted = countedBy (twoFrames count) fitted; ranged = ranged } ⌝ }
 {
-    let registers = ear.registers;
-    let pitch = ear.pitch;
-    let fitted = fit_ring(registers, ear.block_start_index);
     let counted = is_two_frames(fitted, count);
-    let side = SideInfo { pitch, nbits };
-    let tested = Tested {
+    Tested {
         finite,
         counted,
         ranged,
-    };
-    judge_tested(registers, fitted, numerators, denominators, side, tested)
+    }
+}
+
+// An ear's pitch record with the bits that both share.
+fn side_of(ear: Ear, nbits: u32) -> SideInfo
+    ensures { λ r. ⌜ r ≡ record { pitch = ear .pitch; nbits = nbits } ⌝ }
+{
+    let pitch = ear.pitch;
+    SideInfo { pitch, nbits }
 }
 
 // The verdicts on both ears.
@@ -73,7 +68,52 @@ pub struct Verdicts {
     pub right: Verdict,
 }
 
-// 13 for both comes first; then each ear is judged by itself. The entries of the set are looked at once for both.
+// Each ear by itself, where both name one rate and one duration. What is found by the names, and whether the entries of
+// the set are finite, is looked up once for both.
+fn judge_alike(
+    left: Ear,
+    right: Ear,
+    numerators: &[f32],
+    denominators: &[f32],
+    nbits: u32,
+    samples: &[f32],
+) -> Verdicts
+    requires { ⌜ (left .registers .rate ≡ right .registers .rate) × (left .registers .duration ≡ right .registers .duration) ⌝ }
+    ensures { λ r. ⌜ r ≡ alikeJudged left right (now (numerators .entry)) (now (denominators .entry)) nbits (now (samples .entry)) ⌝ }
+{
+    let l = left.registers;
+    let r = right.registers;
+    let named = config(l.rate, l.duration);
+    let left_fitted = fit_ring_as(l, left.block_start_index, named);
+    let right_fitted = fit_ring_as(r, right.block_start_index, named);
+    let finite = set_finite(numerators, denominators);
+    let ranged = ears_in_range(samples);
+    let count = samples.len();
+    let left_tested = tests_of(left_fitted, finite, count, ranged.left);
+    let right_tested = tests_of(right_fitted, finite, count, ranged.right);
+    let left_side = side_of(left, nbits);
+    let right_side = side_of(right, nbits);
+    Verdicts {
+        left: judge_tested(
+            l,
+            left_fitted,
+            numerators,
+            denominators,
+            left_side,
+            left_tested,
+        ),
+        right: judge_tested(
+            r,
+            right_fitted,
+            numerators,
+            denominators,
+            right_side,
+            right_tested,
+        ),
+    }
+}
+
+// 13 for both comes first; then each ear is judged by itself.
 pub(crate) fn judge_both(
     left: Ear,
     right: Ear,
@@ -92,27 +132,5 @@ pub(crate) fn judge_both(
             right: Verdict::Refused(Answer::EarsDiffer),
         };
     }
-    let finite = set_finite(numerators, denominators);
-    let ranged = ears_in_range(samples);
-    let count = samples.len();
-    Verdicts {
-        left: judge_ear(
-            left,
-            numerators,
-            denominators,
-            nbits,
-            finite,
-            count,
-            ranged.left,
-        ),
-        right: judge_ear(
-            right,
-            numerators,
-            denominators,
-            nbits,
-            finite,
-            count,
-            ranged.right,
-        ),
-    }
+    judge_alike(left, right, numerators, denominators, nbits, samples)
 }
