@@ -6,6 +6,9 @@
 #include <stdlib.h>
 #include <time.h>
 
+// A row's figure is the median of this many rounds; a round is about this long, and has at most so many frames.
+enum { ROUNDS = 31, ROUND_NS = 2000000, MAX_ROUND = 4096 };
+
 static inline int64_t clock_ns(void)
 {
     struct timespec t;
@@ -34,6 +37,13 @@ static inline double middle_mean(double *values, size_t count)
     for (size_t i = from; i < to; i++)
         sum += values[i];
     return sum / (double)(to - from);
+}
+
+// An even count of frames that takes about as long as a round should.
+static inline long frames_for(double ns)
+{
+    long count = ns * MAX_ROUND < ROUND_NS ? MAX_ROUND : (long)(ROUND_NS / ns);
+    return (count < 16 ? 16 : count) & ~1L;
 }
 
 // What two readings of the clock cost when nothing lies between them; taken off every time.

@@ -9,10 +9,11 @@ static struct {
     nabiteke_encoder encoder;
 } state, kept;
 
+static nabiteke_decoder left, right;
 static nabiteke_rows rows;
 static nabiteke_sets sets;
 static size_t frame;
-static float decoder_buffer[MAX_FRAME];
+static float decoder_buffer[MAX_FRAME], ears_buffer[2 * MAX_FRAME];
 static int16_t encoder_buffer[MAX_FRAME];
 
 static void demand_done(uint32_t answer)
@@ -70,4 +71,33 @@ static void put_state_back(void)
 const struct engine our_engine = {
     "ours",          true,          start,      decoder_samples, decoder_frame,
     encoder_samples, encoder_frame, keep_state, put_state_back,
+};
+
+static bool start_ears(const struct setting *setting)
+{
+    rows = nabiteke_published_rows(setting->rate);
+    frame = nabiteke_frame_length(setting->rate, setting->duration);
+    demand_done(nabiteke_decoder_start(&left, setting->rate, setting->duration));
+    demand_done(nabiteke_decoder_start(&right, setting->rate, setting->duration));
+    return true;
+}
+
+static float *ears_samples(void)
+{
+    return ears_buffer;
+}
+
+static float *ears_frame(const struct side *sides)
+{
+    nabiteke_pitch left_pitch = {sides[0].active, sides[0].index, sides[0].active};
+    nabiteke_pitch right_pitch = {sides[1].active, sides[1].index, sides[1].active};
+    nabiteke_answers answers = nabiteke_decoder_frame_both(&left, &right, &rows, left_pitch, right_pitch,
+                                                           sides[0].nbits, ears_buffer, 2 * frame);
+    demand_done(answers.left);
+    demand_done(answers.right);
+    return ears_buffer;
+}
+
+const struct engine our_ears = {
+    "ours for both ears", true, start_ears, ears_samples, ears_frame, NULL, NULL, NULL, NULL,
 };

@@ -1,6 +1,7 @@
-// Measures the Rust, liblc3 (where it was built in) and our library side by side, and prints the table.
-// Its arguments are the speeds of the listing programs lags and replay in MB/s, which are measured beforehand and go into the table.
+// Measures the Rust, liblc3 (where it was built in) and our library side by side, and prints the tables.
+// Its arguments are the speeds of the listing programs lags and replay in MB/s, which are measured beforehand and go into the first table.
 #include "cases.h"
+#include "ears.h"
 #include "measure.h"
 #include "slowest.h"
 #include <stdio.h>
@@ -11,6 +12,8 @@ static const struct setting settings[] = {
     {44100, 10000, 480}, {44100, 7500, 360}, {48000, 10000, 480}, {48000, 7500, 360},
 };
 
+enum { SETTINGS = sizeof settings / sizeof *settings };
+
 // A target holds where its worst row does. `worst` is 0 until a row was seen.
 struct target {
     const char *text;
@@ -18,7 +21,7 @@ struct target {
     double limit, worst;
 };
 
-enum { FIVE_TIMES, LIBLC3, THREE_TIMES, COPY, FOUR_TIMES, SHARE, SLOWEST, TARGETS };
+enum { FIVE_TIMES, LIBLC3, THREE_TIMES, COPY, FOUR_TIMES, SHARE, SLOWEST, BOTH_EARS, TARGETS };
 
 static struct target targets[TARGETS] = {
     {"decoder at 48000, cases 2, 4 and 5: times as fast as the Rust", false, 5, 0},
@@ -28,6 +31,7 @@ static struct target targets[TARGETS] = {
     {"encoder at every rate: times as fast as the Rust", false, 4, 0},
     {"slowest frame: percent of its duration", true, 2, 0},
     {"slowest frame of each end, rate and duration: times what the Rust takes for the same frame", true, 1.2, 0},
+    {"frame of both ears at 48000, every case: times a frame of one ear", true, 2.2, 0},
 };
 
 static void hold(int which, double value)
@@ -83,10 +87,15 @@ static void print_head(void)
     printf("|---|---|---|---|---|---|---|---|%s\n", is_in ? "---|---|" : "");
 }
 
+static const char *milliseconds(const struct setting *setting)
+{
+    return setting->duration == 10000 ? "10" : "7.5";
+}
+
 static void print_row(const struct setting *setting, const char *what, double rust, double liblc3, double ours,
                       struct slowest slowest)
 {
-    printf("| %u | %s | %s | %.0f |", setting->rate, setting->duration == 10000 ? "10" : "7.5", what, rust);
+    printf("| %u | %s | %s | %.0f |", setting->rate, milliseconds(setting), what, rust);
     print_liblc3(" %.0f |", liblc3);
     printf(" %.0f | %.2f |", ours, rust / ours);
     print_liblc3(" %.2f |", liblc3 / ours);
@@ -130,6 +139,27 @@ static void print_listing(const char *program, const char *speed)
     printf(" - | - |\n");
 }
 
+static void measure_both_ears(const struct setting *setting)
+{
+    for (int which = 1; which <= CASES; which++) {
+        struct ears_times times = measure_ears(setting, which);
+        double ratio = times.both / times.one;
+        printf("| %u | %s | %d | %.0f | %.0f | %.2f |\n", setting->rate, milliseconds(setting), which, times.one,
+               times.both, ratio);
+        hold(BOTH_EARS, ratio);
+    }
+}
+
+// A table of its own: both ears in one call, at 48000.
+static void print_ears(void)
+{
+    fprintf(stderr, "bench: both ears\n");
+    printf("\n| Hz | ms | case | one ear ns | both ears ns | ratio |\n|---|---|---|---|---|---|\n");
+    for (size_t i = 0; i < SETTINGS; i++)
+        if (settings[i].rate == 48000)
+            measure_both_ears(&settings[i]);
+}
+
 static void print_targets(void)
 {
     printf("\n| target | asked | worst | |\n|---|---|---|---|\n");
@@ -149,19 +179,19 @@ int main(int count_of_words, char **words)
         fprintf(stderr, "usage: bench LAGS-MB-PER-SECOND REPLAY-MB-PER-SECOND\n");
         return 2;
     }
-    size_t count = sizeof settings / sizeof *settings;
     engines[engine_count++] = &rust_engine;
     engines[engine_count++] = &our_engine;
 #ifdef WITH_LIBLC3
     engines[engine_count++] = &liblc3_engine;
 #endif
     print_head();
-    for (size_t i = 0; i < count; i++) {
-        fprintf(stderr, "bench: %u Hz, %u us (%zu of %zu)\n", settings[i].rate, settings[i].duration, i + 1, count);
+    for (size_t i = 0; i < SETTINGS; i++) {
+        fprintf(stderr, "bench: %u Hz, %u us (%zu of %d)\n", settings[i].rate, settings[i].duration, i + 1, SETTINGS);
         measure_setting(&settings[i]);
     }
     print_listing("lags", words[1]);
     print_listing("replay", words[2]);
+    print_ears();
     print_targets();
     return 0;
 }

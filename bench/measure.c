@@ -6,8 +6,6 @@
 #include <stdio.h>
 #include <string.h>
 
-enum { ROUNDS = 31, ROUND_NS = 2000000, MAX_ROUND = 4096 };
-
 const struct engine *engines[MAX_ENGINES];
 size_t engine_count;
 
@@ -75,13 +73,6 @@ static double decoder_round(const struct engine *engine, const struct setting *s
         ns[i] = decode(engine, setting, case_side(which, typical, i), (size_t)i, &output);
     }
     return middle_mean(ns, (size_t)count) - cost;
-}
-
-// An even count of frames that takes about as long as a round should.
-static long frames_for(double ns)
-{
-    long count = ns * MAX_ROUND < ROUND_NS ? MAX_ROUND : (long)(ROUND_NS / ns);
-    return (count < 16 ? 16 : count) & ~1L;
 }
 
 // Every engine's output on the same frames against the Rust's.
