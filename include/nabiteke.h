@@ -12,8 +12,8 @@
  *   nabiteke_published.h has the standard's coefficients, which the frame calls are lent.
  *
  *   Flags are 0 for no and anything else for yes. Rates are in Hz: 8000, 16000, 24000, 32000, 44100 or 48000.
- *   44100 is treated as 48000 throughout: frames, coefficients and answers are the same. Durations are in
- *   microseconds: 10000 or 7500.
+ *   44100 is treated as 48000 throughout: frames, coefficients and answers are the same; but the two ears of one call
+ *   must name the same of the two. Durations are in microseconds: 10000 or 7500.
  *
  * Who owns what
  *
@@ -27,8 +27,8 @@
  *   can, and no call can see it:
  *   - a pointer is never NULL, and what it points to is there: a count says how many entries an array has;
  *   - floats and structs are aligned to 4 bytes, 16-bit samples to 2, a size_t to 8;
- *   - what a call writes (its struct, a decoder's samples, an encoder's record, a pitch or its bytes, a size_t) overlaps
- *     nothing else that it is lent;
+ *   - what a call writes (its struct, or the two structs of two ears, a decoder's samples, an encoder's record, a pitch
+ *     or its bytes, a size_t) overlaps nothing else that it is lent;
  *   - two calls on one struct, or on bytes of which one writes, do not run at the same time.
  *   And floating point is as a program starts with it: rounding to nearest, subnormal numbers kept, no exception
  *   trapped (on x86-64 an MXCSR of 0x1f80). Audio hosts often have subnormals flushed (FTZ, DAZ): set that back for
@@ -37,7 +37,7 @@
  * What a refused call leaves
  *
  *   A refused frame or loss mark changes nothing: the struct and the samples keep their bits (of a NaN's payload this
- *   is tested, not proved), and an encoder's record says absent, 0 bits. A refused start leaves the cleared state of
+ *   is tested, not proved), as do those of a refused ear while the other goes on; and an encoder's record says absent, 0 bits. A refused start leaves the cleared state of
  *   48000 Hz, 10000 us. A refused writing of a pitch changes no byte and says 0; a refused reading gives absent and 0.
  *   A struct that was never started is no danger: one of zero bytes is answered with NABITEKE_UNFIT, and one of
  *   any other bytes is answered with NABITEKE_UNFIT or works like a started one with that past.
@@ -80,13 +80,13 @@ enum nabiteke_answer {
     NABITEKE_DURATION = 2,     /* the duration is not 10000 or 7500 */
     NABITEKE_ROWS = 3,         /* a coefficient array has another length than is asked for */
     NABITEKE_COEFFICIENT = 4,  /* a coefficient is infinite or NaN */
-    NABITEKE_SAMPLE_COUNT = 5, /* the sample count is not the frame's */
+    NABITEKE_SAMPLE_COUNT = 5, /* the sample count is not the frame's, of both ears not twice it */
     NABITEKE_NBITS = 6,        /* nbits is above 3200 */
     NABITEKE_PITCH_INDEX = 7,  /* a present pitch has an index above 511 */
     NABITEKE_SAMPLE = 8,       /* a decoder's sample is NaN or beyond +-1048576 */
     NABITEKE_UNFIT = 9,        /* the struct was not started, or was overwritten */
     NABITEKE_PADDING = 12,     /* a bit in the padding of a packed pitch is set */
-    NABITEKE_EARS = 13,        /* the two ears' structs were started with different rates or durations */
+    NABITEKE_EARS = 13,        /* the structs of two ears name different rates or durations */
     NABITEKE_BYTE_COUNT = 15   /* a packed pitch has too little room, or its bytes end early */
 };
 
