@@ -37,8 +37,9 @@
  * What a refused call leaves
  *
  *   A refused frame or loss mark changes nothing: the struct and the samples keep their bits (of a NaN's payload this
- *   is tested, not proved), as do those of a refused ear while the other goes on; and an encoder's record says absent, 0 bits. A refused start leaves the cleared state of
- *   48000 Hz, 10000 us. A refused writing of a pitch changes no byte and says 0; a refused reading gives absent and 0.
+ *   is tested, not proved), as do those of a refused ear while the other goes on; and an encoder's record says absent,
+ *   0 bits. A refused start leaves the cleared state of 48000 Hz, 10000 us. A refused writing of a pitch changes no byte
+ *   and says 0; a refused reading gives absent and 0.
  *   A struct that was never started is no danger: one of zero bytes is answered with NABITEKE_UNFIT, and one of
  *   any other bytes is answered with NABITEKE_UNFIT or works like a started one with that past.
  *
