@@ -21,12 +21,12 @@ use Rattle.decoder.specs.State.{cleared, startedWith, started, fitDecoder}
 use Rattle.decoder.specs.Frame.{framed, lostWith, lostFrom}
 use Rattle.decoder.specs.declared.state.Decoder.{Decoder}
 use Rattle.decoder.specs.declared.frame.Framed.{Framed}
-use Rattle.settling.specs.Calls.{Given, Call, start, frame, loss, framedBy, after, afterAll, replyOf, reply, replies}
-use Rattle.c_arrays.specs.Words.{whereDone}
+use Rattle.settling.specs.Calls.{Given, Call, start, frame, loss, after, afterAll, replyOf, reply, replies}
+use Rattle.c_arrays.specs.Words.{asFlag, whereDone}
 use Rattle.c_arrays.specs.Registers.{registersFrom}
 use Rattle.c_arrays.proofs.Flags.{flag-back}
 use Rattle.nabiteke.specs.DecoderArrays.{DecoderArrays, arrays, readDecoder, numbersOf, writtenDecoder}
-use Rattle.nabiteke.specs.DecoderCalls.{startCall, frameCall, lostCall, settledCall, handed, handedNumbers, arraysAfter, seen, shown, arraysAfterAll, seenAll}
+use Rattle.nabiteke.specs.DecoderCalls.{startCall, frameCall, lostCall, settledCall, handedNumbers, arraysAfter, seen, shown, arraysAfterAll, seenAll}
 use Rattle.nabiteke.proofs.Folds.{all-kept}
 use Rattle.nabiteke.proofs.DecoderFrames.{Outcome, refusal, success, outcome, unfit-some}
 
@@ -55,11 +55,17 @@ started-kept rate duration = go (configOf rate duration)
     go (Config c) = clear-kept rate duration
     go (Refused a) = clear-kept 48000 10000
 
--- the state in the arrays after an outcome
+-- the state in the arrays after an outcome, and the settled report
 pub outcome-kept : (a : DecoderArrays) {samples : List Float} {r : Framed × List Float} → Outcome (readDecoder a) samples r →
     readDecoder (whereDone (r .0 .answer) (writtenDecoder (r .0 .decoder)) a) ≡ r .0 .decoder
 outcome-kept a (refusal b h) = rw (ne-eqb (numberOf b) 0 h)
 outcome-kept a (success next out w) = read-written next (w .nums) (w .dens)
+
+pub outcome-settled : (a : DecoderArrays) {samples : List Float} {r : Framed × List Float} → Outcome (readDecoder a) samples r →
+    settledCall (whereDone (r .0 .answer) (writtenDecoder (r .0 .decoder)) a) ≡ asFlag (r .0 .settled)
+unfolding settledCall registersFrom numbersOf
+outcome-settled a (refusal b h) = rw (ne-eqb (numberOf b) 0 h)
+outcome-settled a (success next out w) = rw (flag-back (next .registers .settled))
 
 -- and after a call
 pub call-kept : (a : DecoderArrays) (c : Call) → readDecoder (arraysAfter a c) ≡ after (readDecoder a) c
@@ -76,12 +82,7 @@ call-kept a loss = go (fitDecoder (readDecoder a)) refl
 pub call-seen : (a : DecoderArrays) (c : Call) → seen a c ≡ shown (reply (readDecoder a) c)
 unfolding lostFrom startCall frameCall lostCall settledCall registersFrom numbersOf
 call-seen a (start rate duration) = rw (flag-back (started rate duration .decoder .registers .settled))
-call-seen a (frame f) = go (framedBy (readDecoder a) f) (outcome (readDecoder a) f)
-  where
-    go : (r : Framed × List Float) → Outcome (readDecoder a) (f .samples) r →
-        record { answer = handed a r .0; settled = settledCall (handed a r .1); samples = handed a r .2 } ≡ shown (replyOf r)
-    go r (refusal b h) = rw (ne-eqb (numberOf b) 0 h)
-    go r (success next out w) = rw (flag-back (next .registers .settled))
+call-seen a (frame f) = rw (outcome-settled a (outcome (readDecoder a) f))
 call-seen a loss = go (fitDecoder (readDecoder a)) refl
   where
     go : (k : Configured) → fitDecoder (readDecoder a) ≡ k →

@@ -1,4 +1,4 @@
--- A frame of both ears from C: what the functions put together is what its definition says, and the arrays hold the states that it gives.
+-- A frame of both ears from C: what the functions put together is what its definition says.
 use Prim.Native.Nat.{ℕ}
 use mathlib.Core.Path.{_≡_, refl, ap}
 use mathlib.Core.Bool.{Bool, true, false}
@@ -13,24 +13,22 @@ use Rattle.rates.specs.declared.config.Configured.the-variants.{Config, Refused
 use Rattle.lag.specs.declared.pitch.PitchRecord.{PitchRecord}
 use Rattle.decoder.specs.State.{fitDecoder}
 use Rattle.decoder.specs.declared.state.Decoder.{Decoder}
-use Rattle.ears.specs.Turns.{lefts, rights}
-use Rattle.ears.specs.Both.{sharedBy}
 use Rattle.ears.specs.InPlace.{bothApart, bothInPlace}
 use Rattle.ears.specs.declared.frame.Ear.{Ear}
 use Rattle.ears.specs.declared.frame.BothFramed.{BothFramed}
-use Rattle.ears.proofs.Buffers.{halves}
-use Rattle.ears_apart.specs.Calls.{EarGiven, earFramedBy}
+use Rattle.ears_apart.specs.Calls.{Headset, WhichEar, leftEar, rightEar, own, Given, framedBoth, samplesOf, EarGiven, givenTo, earFramedBy}
 use Rattle.ears_apart.proofs.AsOne.{Halved, whole, asOne, refusalOf, refusal-some, whole-framed, other-framed}
+use Rattle.ears_apart.proofs.Interference.{given-halved}
 use Rattle.c_arrays.specs.Words.{whereDone}
 use Rattle.c_arrays.specs.Registers.{readRegisters, keptOf}
-use Rattle.nabiteke.specs.DecoderArrays.{DecoderArrays, arrays, readDecoder, numbersOf, Fits32}
-use Rattle.nabiteke.specs.EarCalls.{pitchAt, framedOf, bothCall}
+use Rattle.nabiteke.specs.DecoderArrays.{DecoderArrays, arrays, numbersOf, Fits32}
+use Rattle.nabiteke.specs.EarCalls.{HeadsetArrays, headsetArrays, readHeadset, bothCall}
 use Rattle.nabiteke.proofs.DecoderFrames.{Outcome, refusal, outcome, unfit-some}
 use Rattle.nabiteke.proofs.DecoderCalls.{outcome-fits, outcome-left}
 
 -- an ear's frame is refused with the state as it was, or done with a state that can be written
-ear-outcome : (d : Decoder) (g : EarGiven) → Halved g → Outcome d (g .samples) (earFramedBy d g)
-ear-outcome d g h = go (whole g) refl
+given-outcome : (d : Decoder) (g : EarGiven) → Halved g → Outcome d (g .samples) (earFramedBy d g)
+given-outcome d g h = go (whole g) refl
   where
     some : (b : Bool) (k : Configured) → fitDecoder d ≡ k → numberOf (refusalOf b (g .shared) k) ≡ 0 → ⊥
     some false k e z = omega arith
@@ -41,6 +39,9 @@ ear-outcome d g h = go (whole g) refl
     go true w = rw (whole-framed g d w) (outcome d (asOne g))
     go false w = rw (other-framed g d h w) (refusal (refusalOf (g .shared .alike) (g .shared) (fitDecoder d)) (some (g .shared .alike) (fitDecoder d) refl))
 
+pub ear-outcome : (e : WhichEar) (h : Headset) (f : Given) → Outcome (own e h) (samplesOf e (f .samples)) (earFramedBy (own e h) (givenTo e h f))
+ear-outcome e h f = given-outcome (own e h) (givenTo e h f) (given-halved e h f)
+
 -- an ear as it is read from the arrays
 abbrev pub earOf : DecoderArrays → PitchRecord → Ear
 earOf a pitch = record { registers = readRegisters (a .numbers) (a .kept); «block_start_index» = getD (a .numbers) 3 0; pitch = pitch }
@@ -49,43 +50,31 @@ earOf a pitch = record { registers = readRegisters (a .numbers) (a .kept); «blo
 abbrev Parts : Type 0
 Parts = BothFramed × List Float × List Float × List Float × List Float × List Float
 
-module _ (l r : DecoderArrays) (numerators denominators : List Float) (sides : List ℕ) (buffer : List Float) where
-  abbrev leftGiven : EarGiven
-  leftGiven = record { shared = sharedBy (readDecoder l) (readDecoder r) numerators denominators (getD sides 6 0) buffer; pitch = pitchAt sides 0; samples = lefts buffer }
+module _ (a : HeadsetArrays) (f : Given) (left right : Ear) (st : BothFramed) (lx ly rx ry out : List Float)
+    (from-l : left ≡ earOf (a .left) (f .left-pitch)) (from-r : right ≡ earOf (a .right) (f .right-pitch))
+    (made : _≡_ {A = Parts} (st, lx, ly, rx, ry, out)
+    (bothInPlace left (a .left .inputs) (a .left .outputs) right (a .right .inputs) (a .right .outputs) (f .numerators) (f .denominators) (f .nbits) (f .samples))) where
+  e : _≡_ {A = Parts} (st, lx, ly, rx, ry, out) (bothApart (framedBoth (readHeadset a) f))
+  e = rw (from-l, from-r) at made
 
-  abbrev rightGiven : EarGiven
-  rightGiven = record { shared = sharedBy (readDecoder l) (readDecoder r) numerators denominators (getD sides 6 0) buffer; pitch = pitchAt sides 3; samples = rights buffer }
+  -- the state of an ear that is done can be written
+  pub left-fits : numberOf (st .left .answer) ≡ 0 → Fits32 (st .left .registers) (st .left .«block_start_index»)
+  left-fits = outcome-fits (ear-outcome leftEar (readHeadset a) f) (st .left) (ap (λ (p : Parts). p .0 .left) e)
 
-  pub left-outcome : Outcome (readDecoder l) (lefts buffer) (earFramedBy (readDecoder l) leftGiven)
-  left-outcome = ear-outcome (readDecoder l) leftGiven (λ n e. halves buffer n e .0)
+  pub right-fits : numberOf (st .right .answer) ≡ 0 → Fits32 (st .right .registers) (st .right .«block_start_index»)
+  right-fits = outcome-fits (ear-outcome rightEar (readHeadset a) f) (st .right) (ap (λ (p : Parts). p .0 .right) e)
 
-  pub right-outcome : Outcome (readDecoder r) (rights buffer) (earFramedBy (readDecoder r) rightGiven)
-  right-outcome = ear-outcome (readDecoder r) rightGiven (λ n e. halves buffer n e .1)
-
-  module _ (left right : Ear) (st : BothFramed) (lx ly rx ry out : List Float) (from-l : left ≡ earOf l (pitchAt sides 0)) (from-r : right ≡ earOf r (pitchAt sides 3))
-      (made : _≡_ {A = Parts} (st, lx, ly, rx, ry, out)
-      (bothInPlace left (l .inputs) (l .outputs) right (r .inputs) (r .outputs) numerators denominators (getD sides 6 0) buffer)) where
-    e : _≡_ {A = Parts} (st, lx, ly, rx, ry, out) (bothApart (framedOf l r numerators denominators sides buffer))
-    e = rw (from-l, from-r) at made
-
-    -- the state of an ear that is done can be written
-    pub left-fits : numberOf (st .left .answer) ≡ 0 → Fits32 (st .left .registers) (st .left .«block_start_index»)
-    left-fits = outcome-fits left-outcome (st .left) (ap (λ (p : Parts). p .0 .left) e)
-
-    pub right-fits : numberOf (st .right .answer) ≡ 0 → Fits32 (st .right .registers) (st .right .«block_start_index»)
-    right-fits = outcome-fits right-outcome (st .right) (ap (λ (p : Parts). p .0 .right) e)
-
-    -- and is written, each by itself
-    pub both-left : (lw rw′ : ℕ) (ln rn : List ℕ) (lk rk : List Float) →
-        lw ≡ numberOf (st .left .answer) →
-        ln ≡ whereDone (st .left .answer) (numbersOf (st .left .registers) (st .left .«block_start_index»)) (l .numbers) →
-        lk ≡ whereDone (st .left .answer) (keptOf (st .left .registers)) (l .kept) →
-        rw′ ≡ numberOf (st .right .answer) →
-        rn ≡ whereDone (st .right .answer) (numbersOf (st .right .registers) (st .right .«block_start_index»)) (r .numbers) →
-        rk ≡ whereDone (st .right .answer) (keptOf (st .right .registers)) (r .kept) →
-        (lw ∷ rw′ ∷ [], arrays ln lk lx ly, arrays rn rk rx ry, out) ≡ bothCall l r numerators denominators sides buffer
-    unfolding bothCall
-    both-left lw rw′ ln rn lk rk a b c u v w =
-        let x = outcome-left l (st .left) lx ly lw ln lk a b c left-outcome (ap (λ (p : Parts). p .0 .left) e) (ap (λ (p : Parts). p .1) e) (ap (λ (p : Parts). p .2) e) in
-        let y = outcome-left r (st .right) rx ry rw′ rn rk u v w right-outcome (ap (λ (p : Parts). p .0 .right) e) (ap (λ (p : Parts). p .3) e) (ap (λ (p : Parts). p .4) e) in
-        rw (x .0, x .1, y .0, y .1, ap (λ (p : Parts). p .5) e)
+  -- and is written, each by itself
+  pub both-left : (lw rw′ : ℕ) (ln rn : List ℕ) (lk rk : List Float) →
+      lw ≡ numberOf (st .left .answer) →
+      ln ≡ whereDone (st .left .answer) (numbersOf (st .left .registers) (st .left .«block_start_index»)) (a .left .numbers) →
+      lk ≡ whereDone (st .left .answer) (keptOf (st .left .registers)) (a .left .kept) →
+      rw′ ≡ numberOf (st .right .answer) →
+      rn ≡ whereDone (st .right .answer) (numbersOf (st .right .registers) (st .right .«block_start_index»)) (a .right .numbers) →
+      rk ≡ whereDone (st .right .answer) (keptOf (st .right .registers)) (a .right .kept) →
+      (lw ∷ rw′ ∷ [], headsetArrays (arrays ln lk lx ly) (arrays rn rk rx ry), out) ≡ bothCall a f
+  unfolding bothCall
+  both-left lw rw′ ln rn lk rk p q s u v w =
+      let x = outcome-left (a .left) (st .left) lx ly lw ln lk p q s (ear-outcome leftEar (readHeadset a) f) (ap (λ (p : Parts). p .0 .left) e) (ap (λ (p : Parts). p .1) e) (ap (λ (p : Parts). p .2) e) in
+      let y = outcome-left (a .right) (st .right) rx ry rw′ rn rk u v w (ear-outcome rightEar (readHeadset a) f) (ap (λ (p : Parts). p .0 .right) e) (ap (λ (p : Parts). p .3) e) (ap (λ (p : Parts). p .4) e) in
+      rw (x .0, x .1, y .0, y .1, ap (λ (p : Parts). p .5) e)

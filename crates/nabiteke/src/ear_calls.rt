@@ -15,7 +15,7 @@ ghost use Rattle.c_arrays.specs.Words.{whereDone};
 ghost use Rattle.c_arrays.specs.Pitch.{pitchFrom};
 ghost use Rattle.c_arrays.specs.Registers.{readRegisters, keptOf};
 ghost use Rattle.nabiteke.specs.DecoderArrays.{arrays, numbersOf, Fits32};
-ghost use Rattle.nabiteke.specs.EarCalls.{bothCall};
+ghost use Rattle.nabiteke.specs.EarCalls.{headsetArrays, givenBoth, bothCall};
 
 // An ear in the caller's arrays, with the three numbers of its pitch.
 fn read_ear(numbers: &[u32; 8], kept: &[f32; 24], present: u32, index: u32, active: u32) -> Ear
@@ -57,7 +57,7 @@ pub extern "C" fn nabiteke_decoder_frame_both_(
     samples: &mut [f32],
     answers: &mut [u32; 2],
 )
-    ensures { λ _. ⌜ (now (answers .exit), arrays (now («left_numbers» .exit)) (now («left_kept» .exit)) (now («left_inputs» .exit)) (now («left_outputs» .exit)), arrays (now («right_numbers» .exit)) (now («right_kept» .exit)) (now («right_inputs» .exit)) (now («right_outputs» .exit)), now (samples .exit)) ≡ bothCall (arrays (now («left_numbers» .entry)) (now («left_kept» .entry)) (now («left_inputs» .entry)) (now («left_outputs» .entry))) (arrays (now («right_numbers» .entry)) (now («right_kept» .entry)) (now («right_inputs» .entry)) (now («right_outputs» .entry))) (now (numerators .entry)) (now (denominators .entry)) (now (sides .entry)) (now (samples .entry)) ⌝ }
+    ensures { λ _. ⌜ (now (answers .exit), headsetArrays (arrays (now («left_numbers» .exit)) (now («left_kept» .exit)) (now («left_inputs» .exit)) (now («left_outputs» .exit))) (arrays (now («right_numbers» .exit)) (now («right_kept» .exit)) (now («right_inputs» .exit)) (now («right_outputs» .exit))), now (samples .exit)) ≡ bothCall (headsetArrays (arrays (now («left_numbers» .entry)) (now («left_kept» .entry)) (now («left_inputs» .entry)) (now («left_outputs» .entry))) (arrays (now («right_numbers» .entry)) (now («right_kept» .entry)) (now («right_inputs» .entry)) (now («right_outputs» .entry)))) (givenBoth (now (numerators .entry)) (now (denominators .entry)) (now (sides .entry)) (now (samples .entry))) ⌝ }
 {
     let left = read_ear(left_numbers, left_kept, sides[0], sides[1], sides[2]);
     let right = read_ear(right_numbers, right_kept, sides[3], sides[4], sides[5]);
