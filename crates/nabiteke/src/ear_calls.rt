@@ -8,22 +8,23 @@ use c_arrays::words::wide;
 use decoder::frame::FramedInPlace;
 use ears::frame::Ear;
 use ears::frame::frame_both;
+ghost use Prim.Native.Nat.{_≤_};
 ghost use mathlib.Core.Path.{_≡_};
 ghost use lib.ListN.{getD};
 ghost use Rattle.rates.specs.Answers.{numberOf};
 ghost use Rattle.c_arrays.specs.Words.{whereDone};
-ghost use Rattle.c_arrays.specs.Pitch.{pitchFrom};
 ghost use Rattle.c_arrays.specs.Registers.{readRegisters, keptOf};
 ghost use Rattle.nabiteke.specs.DecoderArrays.{arrays, numbersOf, Fits32};
-ghost use Rattle.nabiteke.specs.EarCalls.{headsetArrays, givenBoth, bothCall};
+ghost use Rattle.nabiteke.specs.EarCalls.{pitchAt, headsetArrays, givenBoth, bothCall};
 
-// An ear in the caller's arrays, with the three numbers of its pitch.
-fn read_ear(numbers: &[u32; 8], kept: &[f32; 24], present: u32, index: u32, active: u32) -> Ear
-    ensures { λ r. ⌜ r ≡ record { registers = readRegisters (now (numbers .entry)) (now (kept .entry)); «block_start_index» = getD (now (numbers .entry)) 3 0; pitch = pitchFrom present index active } ⌝ }
+// An ear in the caller's arrays, with its pitch: the three numbers from `at` on.
+fn read_ear(numbers: &[u32; 8], kept: &[f32; 24], sides: &[u32; 7], at: usize) -> Ear
+    requires { ⌜ at ≤ 4 ⌝ }
+    ensures { λ r. ⌜ r ≡ record { registers = readRegisters (now (numbers .entry)) (now (kept .entry)); «block_start_index» = getD (now (numbers .entry)) 3 0; pitch = pitchAt (now (sides .entry)) at } ⌝ }
 {
     let registers = read_registers(numbers, kept);
     let block_start_index = wide(numbers[3]);
-    let pitch = pitch_from(present, index, active);
+    let pitch = pitch_from(sides[at], sides[at + 1], sides[at + 2]);
     Ear {
         registers,
         block_start_index,
@@ -59,8 +60,8 @@ pub extern "C" fn nabiteke_decoder_frame_both_(
 )
     ensures { λ _. ⌜ (now (answers .exit), headsetArrays (arrays (now («left_numbers» .exit)) (now («left_kept» .exit)) (now («left_inputs» .exit)) (now («left_outputs» .exit))) (arrays (now («right_numbers» .exit)) (now («right_kept» .exit)) (now («right_inputs» .exit)) (now («right_outputs» .exit))), now (samples .exit)) ≡ bothCall (headsetArrays (arrays (now («left_numbers» .entry)) (now («left_kept» .entry)) (now («left_inputs» .entry)) (now («left_outputs» .entry))) (arrays (now («right_numbers» .entry)) (now («right_kept» .entry)) (now («right_inputs» .entry)) (now («right_outputs» .entry)))) (givenBoth (now (numerators .entry)) (now (denominators .entry)) (now (sides .entry)) (now (samples .entry))) ⌝ }
 {
-    let left = read_ear(left_numbers, left_kept, sides[0], sides[1], sides[2]);
-    let right = read_ear(right_numbers, right_kept, sides[3], sides[4], sides[5]);
+    let left = read_ear(left_numbers, left_kept, sides, 0);
+    let right = read_ear(right_numbers, right_kept, sides, 3);
     let both = frame_both(
         left,
         left_inputs,
