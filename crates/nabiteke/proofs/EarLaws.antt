@@ -3,33 +3,37 @@
 use mathlib.Core.Path.{_≡_, refl, sym}
 use mathlib.Core.List.{List, [], _∷_, map, map-append}
 use Rattle.settling.specs.Calls as one
-use Rattle.ears_apart.specs.Calls.{WhichEar, leftEar, rightEar, Call, start, loss, frame, after, afterAll, replyTo, repliesTo}
-use Rattle.nabiteke.specs.DecoderCalls.{shown}
-use Rattle.nabiteke.specs.EarCalls.{HeadsetArrays, readHeadset, bothCall, bothAfter, seenFor, bothAfterAll, allSeenFor}
+use Rattle.ears_apart.specs.Calls.{WhichEar, leftEar, rightEar, own, Call, start, loss, frame, withOwn, after, afterAll, ifOwn, replyTo, repliesTo}
+use Rattle.nabiteke.specs.DecoderCalls.{arraysAfter, seen, shown}
+use Rattle.nabiteke.specs.EarCalls.{HeadsetArrays, readHeadset, bothCall, arraysOf, withArrays, bothAfter, seenFor, bothAfterAll, allSeenFor}
 use Rattle.nabiteke.proofs.Folds.{all-kept}
 use Rattle.nabiteke.proofs.EarCalls.{ear-outcome}
 use Rattle.nabiteke.proofs.DecoderLaws.{outcome-kept, outcome-settled, call-kept, call-seen}
 
--- the states after a call
+-- the states after a call of one ear, and after a frame
+own-kept : (e : WhichEar) (a : HeadsetArrays) (c : one.Call) →
+    readHeadset (withArrays e a (arraysAfter (arraysOf e a) c)) ≡ withOwn e (readHeadset a) (one.after (own e (readHeadset a)) c)
+own-kept leftEar a c = rw (call-kept (a .left) c)
+own-kept rightEar a c = rw (call-kept (a .right) c)
+
 both-call-kept : (a : HeadsetArrays) (c : Call) → readHeadset (bothAfter a c) ≡ after (readHeadset a) c
 unfolding bothCall
-both-call-kept a (start leftEar rate duration) = rw (call-kept (a .left) (one.start rate duration))
-both-call-kept a (start rightEar rate duration) = rw (call-kept (a .right) (one.start rate duration))
-both-call-kept a (loss leftEar) = rw (call-kept (a .left) one.loss)
-both-call-kept a (loss rightEar) = rw (call-kept (a .right) one.loss)
+both-call-kept a (start e rate duration) = own-kept e a (one.start rate duration)
+both-call-kept a (loss e) = own-kept e a one.loss
 both-call-kept a (frame f) = rw (outcome-kept (a .left) (ear-outcome leftEar (readHeadset a) f), outcome-kept (a .right) (ear-outcome rightEar (readHeadset a) f))
 
 -- and what C sees of it
+own-seen : (e which : WhichEar) (a : HeadsetArrays) (c : one.Call) →
+    ifOwn e which (seen (arraysOf e a) c) ≡ map shown (ifOwn e which (one.reply (own e (readHeadset a)) c))
+own-seen leftEar leftEar a c = rw (call-seen (a .left) c)
+own-seen leftEar rightEar a c = refl
+own-seen rightEar leftEar a c = refl
+own-seen rightEar rightEar a c = rw (call-seen (a .right) c)
+
 both-call-seen : (e : WhichEar) (a : HeadsetArrays) (c : Call) → seenFor e a c ≡ map shown (replyTo e (readHeadset a) c)
 unfolding bothCall
-both-call-seen leftEar a (start leftEar rate duration) = rw (call-seen (a .left) (one.start rate duration))
-both-call-seen leftEar a (start rightEar rate duration) = refl
-both-call-seen rightEar a (start leftEar rate duration) = refl
-both-call-seen rightEar a (start rightEar rate duration) = rw (call-seen (a .right) (one.start rate duration))
-both-call-seen leftEar a (loss leftEar) = rw (call-seen (a .left) one.loss)
-both-call-seen leftEar a (loss rightEar) = refl
-both-call-seen rightEar a (loss leftEar) = refl
-both-call-seen rightEar a (loss rightEar) = rw (call-seen (a .right) one.loss)
+both-call-seen e a (start which rate duration) = own-seen e which a (one.start rate duration)
+both-call-seen e a (loss which) = own-seen e which a one.loss
 both-call-seen leftEar a (frame f) = rw (outcome-settled (a .left) (ear-outcome leftEar (readHeadset a) f))
 both-call-seen rightEar a (frame f) = rw (outcome-settled (a .right) (ear-outcome rightEar (readHeadset a) f))
 
