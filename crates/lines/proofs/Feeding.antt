@@ -11,12 +11,12 @@ use lib.Dec.{eqb}
 use lib.ListN.{length, take, drop, getD, length-drop, drop-of-length-le}
 use lib.Seq.{take-add, take-suc, drop-cons, drop-drop, getD-drop}
 use Rattle.lines.specs.Fields.{byteAt}
-use Rattle.lines.specs.Texts.{Written}
+use Rattle.cells.specs.Texts.{Written}
 use Rattle.lines.specs.Listings.{Rules}
 use Rattle.lines.specs.Machine.{emptied, heldLine, heldStep, heldAfter, lineTaken, stateStep, emitted, stateAfter, text, taken}
 use Rattle.lines.specs.declared.held.Held.{Held}
 use Rattle.lines.specs.declared.held.Taken.{Taken}
-use Rattle.lines.proofs.Stores.{written-then, written-length}
+use Rattle.cells.proofs.Stores.{written-then, written-length}
 use Rattle.lines.proofs.Cuts.{held-append, state-append, text-append, taken-none, line}
 
 -- before its end, a line stops at a newline

@@ -12,7 +12,7 @@ use Rattle.rates.specs.declared.table.FoundRate.{FoundRate}
 use Rattle.lag.specs.Lag.{lookedUpLag}
 use Rattle.lag.specs.declared.rescale.LookedUpLag.{LookedUpLag}
 use Rattle.lines.specs.Fields.{tabAt, fieldOf}
-use Rattle.lines.specs.Texts.{cell, signedCell, dashCell}
+use Rattle.cells.specs.Texts.{cell, signedCell, dashCell}
 use Rattle.lines.specs.declared.field.Field.{Field}
 use Rattle.listing.specs.declared.row.Row.{Row}
 use Rattle.listing.specs.declared.row.Shown.{Shown}

@@ -2,7 +2,7 @@
 // writes the rows into whatever space it is lent.
 use crate::row::answer_line;
 use crate::row::put_row;
-use lines::cell::put_text;
+use cells::cell::put_text;
 use lines::held::Held;
 use lines::held::count;
 use lines::held::take_line;
@@ -11,7 +11,7 @@ ghost use Prim.Native.Nat.{_+_, _≤_};
 ghost use lib.ListN.{length, take};
 ghost use lib.Seq.{sets};
 ghost use Rattle.lines.specs.Machine.{heldLine};
-ghost use Rattle.lines.specs.Texts.{Written};
+ghost use Rattle.cells.specs.Texts.{Written};
 ghost use Rattle.listing.specs.Rows.{answerTo, rowText};
 ghost use Rattle.listing.specs.Whole.{header};
 ghost use Rattle.listing.specs.Machine.{first, after, text, taken, lastText};

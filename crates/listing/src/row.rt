@@ -1,13 +1,13 @@
 // One line of the listing: what a line of input asks, and the row that answers it.
+use cells::cell::put_cell;
+use cells::cell::put_text;
+use cells::signed::put_signed;
 use lag::rescale::LookedUpLag;
 use lag::rescale::RoundedLag;
 use lag::rescale::look_up_lag;
-use lines::cell::put_cell;
-use lines::cell::put_text;
 use lines::field::Field;
 use lines::field::first_tab;
 use lines::field::read_field;
-use lines::signed::put_signed;
 use rates::answer::Answer;
 use rates::answer::number;
 use rates::table::FoundRate;
@@ -16,7 +16,7 @@ use rates::table::row_of;
 ghost use mathlib.Core.Path.{_≡_};
 ghost use Prim.Native.Nat.{_+_, _≤_};
 ghost use lib.ListN.{length};
-ghost use Rattle.lines.specs.Texts.{Written};
+ghost use Rattle.cells.specs.Texts.{Written};
 ghost use Rattle.listing.specs.Rows.{refusedRow, lagRow, atRate, lookedUp, answerTo};
 ghost use Rattle.listing.specs.Rows.{shownText, rowText};
 

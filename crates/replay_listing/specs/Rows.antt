@@ -7,7 +7,7 @@ use Rattle.lag.specs.declared.gain.Gain.{Gain}
 use Rattle.lag.specs.declared.rescale.Lag.{Lag}
 use Rattle.filter.specs.declared.transition.Transition.{Transition}
 use Rattle.filter.specs.declared.transition.Transition.the-variants.{Inactive, Activated, Deactivated, ActiveNoPitchChange, ActivePitchChanged}
-use Rattle.lines.specs.Texts.{cell, signedCell, dashCell}
+use Rattle.cells.specs.Texts.{cell, signedCell, dashCell}
 use Rattle.replaying.specs.declared.frame.Columns.{Columns}
 use Rattle.replaying.specs.declared.frame.Shown.{Shown}
 use Rattle.replaying.specs.declared.frame.Row.{Row}

@@ -1,11 +1,11 @@
 // The text of a row.
+use cells::cell::put_cell;
+use cells::cell::put_dash;
+use cells::cell::put_text;
+use cells::signed::put_signed;
 use filter::transition::Transition;
 use lag::gain::Gain;
 use lag::rescale::Lag;
-use lines::cell::put_cell;
-use lines::cell::put_dash;
-use lines::cell::put_text;
-use lines::signed::put_signed;
 use rates::answer::number;
 use replaying::frame::Columns;
 use replaying::frame::Row;
@@ -14,7 +14,7 @@ use replaying::rounding::Rounding;
 ghost use mathlib.Core.Path.{_≡_};
 ghost use Prim.Native.Nat.{_+_, _≤_};
 ghost use lib.ListN.{length};
-ghost use Rattle.lines.specs.Texts.{Written};
+ghost use Rattle.cells.specs.Texts.{Written};
 ghost use Rattle.replay_listing.specs.Rows.{caseNumber, flagNumber, lagText, gainText, roundingText, columnsText, dashesText, shownText, rowText};
 
 // The number of a case.

@@ -2,7 +2,7 @@
 use native.Mathlib.Omega.{arith}
 use mir.Syntax.{w32}
 use mir.ValLaws.{toZ-ofZ}
-use Rattle.lines.proofs.Stores.{written, written-then}
+use Rattle.cells.proofs.Stores.{written, written-then}
 use borrow.Author.Needs.{needs}
 use Rattle.listing.proofs.row.put_shown.Statement.{statement}
 use Rattle.listing.proofs.row.put_shown.Tie as tie

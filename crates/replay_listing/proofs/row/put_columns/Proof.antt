@@ -1,6 +1,6 @@
 -- `put_columns` writes the cells of a frame, one after the other.
 use native.Mathlib.Omega.{arith}
-use Rattle.lines.proofs.Stores.{written-then}
+use Rattle.cells.proofs.Stores.{written-then}
 use Rattle.replay_listing.proofs.Cells.{cell-written}
 use borrow.Author.Needs.{needs}
 use Rattle.replay_listing.proofs.row.put_columns.Statement.{statement}

@@ -1,6 +1,6 @@
 -- `put_dashes` writes its text, which fits.
 use native.Mathlib.Omega.{arith}
-use Rattle.lines.proofs.Stores.{written}
+use Rattle.cells.proofs.Stores.{written}
 use borrow.Author.Needs.{needs}
 use Rattle.replay_listing.proofs.row.put_dashes.Statement.{statement}
 use Rattle.replay_listing.proofs.row.put_dashes.Tie as tie

@@ -1,7 +1,7 @@
 -- `put_gain` writes one cell: a dash, or the gain's row.
 use native.Mathlib.Omega.{arith}
 use borrow.Author.Tests.{not-true, not-false}
-use Rattle.lines.proofs.Stores.{written}
+use Rattle.cells.proofs.Stores.{written}
 use borrow.Author.Needs.{needs}
 use Rattle.replay_listing.proofs.row.put_gain.Statement.{statement}
 use Rattle.replay_listing.proofs.row.put_gain.Tie as tie

@@ -1,6 +1,6 @@
 -- `put_lag` writes two cells, one after the other.
 use native.Mathlib.Omega.{arith}
-use Rattle.lines.proofs.Stores.{written, written-then}
+use Rattle.cells.proofs.Stores.{written, written-then}
 use borrow.Author.Needs.{needs}
 use Rattle.replay_listing.proofs.row.put_lag.Statement.{statement}
 use Rattle.replay_listing.proofs.row.put_lag.Tie as tie

@@ -2,7 +2,7 @@
 use native.Mathlib.Omega.{arith}
 use mir.Syntax.{w32}
 use mir.ValLaws.{toZ-ofZ}
-use Rattle.lines.proofs.Stores.{written}
+use Rattle.cells.proofs.Stores.{written}
 use borrow.Author.Needs.{needs}
 use Rattle.replay_listing.proofs.row.put_rounding.Statement.{statement}
 use Rattle.replay_listing.proofs.row.put_rounding.Tie as tie

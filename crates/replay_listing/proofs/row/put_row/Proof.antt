@@ -1,6 +1,6 @@
 -- `put_row` writes the cells of a row, one after the other.
 use native.Mathlib.Omega.{arith}
-use Rattle.lines.proofs.Stores.{written, written-then}
+use Rattle.cells.proofs.Stores.{written, written-then}
 use Rattle.replay_listing.proofs.Cells.{cell-written}
 use borrow.Author.Needs.{needs}
 use Rattle.replay_listing.proofs.row.put_row.Statement.{statement}

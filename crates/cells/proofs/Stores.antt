@@ -6,7 +6,7 @@ use borrow.Author.Tests.{le-leb, lt-leb}
 use native.Mathlib.Nat.{add-zero, add-suc, suc-add, add-assoc}
 use lib.ListN.{length, set, length-append}
 use lib.Seq.{sets, length-sets}
-use Rattle.lines.specs.Texts.{Written, Put}
+use Rattle.cells.specs.Texts.{Written, Put}
 
 -- a store after a run of stores lengthens the run
 pub sets-append : (l : List ℕ) (i : ℕ) (a b : List ℕ) → sets (sets l i a) (i + length a) b ≡ sets l i (a ++ b)

@@ -1,8 +1,8 @@
 -- `four_fifths`: with each sum the part of n that is missing is squared, and rounding takes less than one more.
 use Prim.Native.Nat.{ℕ, _+_, _*_, _/_, _≤_, _<_, _^_}
 use native.Mathlib.Omega.{arith}
-use Rattle.lines.proofs.decimal.four_fifths.Statement.{statement}
-use Rattle.lines.proofs.decimal.four_fifths.Tie as tie
+use Rattle.cells.proofs.decimal.four_fifths.Statement.{statement}
+use Rattle.cells.proofs.decimal.four_fifths.Tie as tie
 
 -- e is b/a of n, or too little by at most k/a
 abbrev Near : ℕ → ℕ → ℕ → ℕ → ℕ → Type 0

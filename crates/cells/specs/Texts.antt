@@ -7,7 +7,7 @@ use lib.Dec.{leb}
 use lib.IntN.{ℤ}
 use lib.ListN.{length}
 use lib.Seq.{sets}
-use Rattle.lines.specs.Decimal.{decimal, signedDecimal}
+use Rattle.cells.specs.Decimal.{decimal, signedDecimal}
 
 -- the cell of a number, of an integer, and one that holds a dash, each with the byte that ends it
 abbrev pub cell : ℕ → ℕ → List ℕ

@@ -3,10 +3,10 @@ use mathlib.Core.Path.{refl}
 use native.Mathlib.Numerals.{add-one}
 use native.Mathlib.Omega.{arith}
 use lib.ListN.{length-set}
-use Rattle.lines.proofs.Stores.{put-written, put-nothing}
+use Rattle.cells.proofs.Stores.{put-written, put-nothing}
 use borrow.Author.Needs.{needs}
-use Rattle.lines.proofs.cell.put_dash.Statement.{statement}
-use Rattle.lines.proofs.cell.put_dash.Tie as tie
+use Rattle.cells.proofs.cell.put_dash.Statement.{statement}
+use Rattle.cells.proofs.cell.put_dash.Tie as tie
 
 returns : tie.Need-returns
 returns c = (put-nothing 2 _ _ _ (omega arith), search needs)

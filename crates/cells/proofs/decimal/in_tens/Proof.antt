@@ -3,8 +3,8 @@ use Prim.Native.Nat.{_+_, _/_}
 use mathlib.Core.Path.{_≡_}
 use native.Mathlib.Omega.{arith}
 use borrow.Author.Needs.{needs}
-use Rattle.lines.proofs.decimal.in_tens.Statement.{statement}
-use Rattle.lines.proofs.decimal.in_tens.Tie as tie
+use Rattle.cells.proofs.decimal.in_tens.Statement.{statement}
+use Rattle.cells.proofs.decimal.in_tens.Tie as tie
 
 returns : tie.Need-returns
 returns c =

@@ -8,7 +8,7 @@ use native.Mathlib.Omega.{arith}
 use borrow.Author.Tests.{lt-ltb, le-ltb, ltb-true, ltb-false}
 use lib.Dec.{ltb}
 use lib.ListN.{length, length-append}
-use Rattle.lines.specs.Decimal.{digits, decimal}
+use Rattle.cells.specs.Decimal.{digits, decimal}
 
 -- more digits than needed change nothing
 enough : (f g n : ℕ) → n < f → n < g → digits f n ≡ digits g n

@@ -5,7 +5,7 @@ ghost use mathlib.Core.Path.{_≡_};
 ghost use Prim.Native.Nat.{_+_, _≤_};
 ghost use lib.ListN.{length};
 ghost use lib.Seq.{sets};
-ghost use Rattle.lines.specs.Texts.{Put, cell, dashCell};
+ghost use Rattle.cells.specs.Texts.{Put, cell, dashCell};
 
 // A text that fits.
 fn copy(out: &mut [u8], at: usize, text: &[u8])

@@ -1,10 +1,10 @@
 -- `put_text` copies where the text fits.
 use mathlib.Core.Path.{refl}
 use native.Mathlib.Omega.{arith}
-use Rattle.lines.proofs.Stores.{put-written, put-nothing}
+use Rattle.cells.proofs.Stores.{put-written, put-nothing}
 use borrow.Author.Needs.{needs}
-use Rattle.lines.proofs.cell.put_text.Statement.{statement}
-use Rattle.lines.proofs.cell.put_text.Tie as tie
+use Rattle.cells.proofs.cell.put_text.Statement.{statement}
+use Rattle.cells.proofs.cell.put_text.Tie as tie
 
 returns : tie.Need-returns
 returns c = put-nothing _ _ _ _ (omega arith)

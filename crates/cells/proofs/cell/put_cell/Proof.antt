@@ -3,13 +3,13 @@ use Prim.Native.Nat.{_≤_}
 use mathlib.Core.Path.{refl}
 use native.Mathlib.Omega.{arith}
 use lib.ListN.{length}
-use Rattle.lines.specs.Texts.{Written}
-use Rattle.lines.specs.Decimal.{decimal}
-use Rattle.lines.proofs.Decimals.{decimal-64}
-use Rattle.lines.proofs.Stores.{written, written-then, written-length, put-written, put-nothing}
+use Rattle.cells.specs.Texts.{Written}
+use Rattle.cells.specs.Decimal.{decimal}
+use Rattle.cells.proofs.Decimals.{decimal-64}
+use Rattle.cells.proofs.Stores.{written, written-then, written-length, put-written, put-nothing}
 use borrow.Author.Needs.{needs}
-use Rattle.lines.proofs.cell.put_cell.Statement.{statement}
-use Rattle.lines.proofs.cell.put_cell.Tie as tie
+use Rattle.cells.proofs.cell.put_cell.Statement.{statement}
+use Rattle.cells.proofs.cell.put_cell.Tie as tie
 
 -- the number stands there, since there is space for 20 digits
 number : (c : tie.After-put-number) →

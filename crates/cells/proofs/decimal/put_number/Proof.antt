@@ -1,10 +1,10 @@
 -- `put_number` writes where 20 bytes are left, which any number of 64 bits fits.
 use native.Mathlib.Omega.{arith}
-use Rattle.lines.proofs.Decimals.{decimal-64}
-use Rattle.lines.proofs.Stores.{put-written, put-nothing}
+use Rattle.cells.proofs.Decimals.{decimal-64}
+use Rattle.cells.proofs.Stores.{put-written, put-nothing}
 use borrow.Author.Needs.{needs}
-use Rattle.lines.proofs.decimal.put_number.Statement.{statement}
-use Rattle.lines.proofs.decimal.put_number.Tie as tie
+use Rattle.cells.proofs.decimal.put_number.Statement.{statement}
+use Rattle.cells.proofs.decimal.put_number.Tie as tie
 
 returns : tie.Need-returns
 returns c = put-nothing 20 _ _ _ (omega arith)

@@ -11,11 +11,11 @@ use lib.Signed.{ltZ}
 use mir.Syntax.{w32}
 use mir.Val.{SFits, toZ, ofZ}
 use mir.ValLaws.{toZ-ofZ}
-use Rattle.lines.specs.Texts.{Written, cell, signedCell}
-use Rattle.lines.proofs.Stores.{written, written-then, written-length, put-written, put-nothing}
+use Rattle.cells.specs.Texts.{Written, cell, signedCell}
+use Rattle.cells.proofs.Stores.{written, written-then, written-length, put-written, put-nothing}
 use borrow.Author.Needs.{needs}
-use Rattle.lines.proofs.signed.put_signed.Statement.{statement}
-use Rattle.lines.proofs.signed.put_signed.Tie as tie
+use Rattle.cells.proofs.signed.put_signed.Statement.{statement}
+use Rattle.cells.proofs.signed.put_signed.Tie as tie
 
 -- what the code makes of a number below 0
 record Turned (z : ℤ) : Type 0 where

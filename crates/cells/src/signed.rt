@@ -1,7 +1,7 @@
 // The cell of a number that may be below 0.
 use crate::cell::put_cell;
 ghost use Prim.Native.Nat.{_+_, _≤_};
-ghost use Rattle.lines.specs.Texts.{Put, signedCell};
+ghost use Rattle.cells.specs.Texts.{Put, signedCell};
 
 // Such a number, and the byte that ends its cell; where too little space is left nothing, as in `cell`.
 // Below 0 it takes -1 - n, since -n does not fit 32 bits for the least number.

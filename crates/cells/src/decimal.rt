@@ -3,8 +3,8 @@ ghost use mathlib.Core.Path.{_≡_};
 ghost use Prim.Native.Nat.{_+_, _*_, _/_, _%_, _≤_};
 ghost use lib.ListN.{length};
 ghost use lib.Seq.{sets};
-ghost use Rattle.lines.specs.Decimal.{decimal};
-ghost use Rattle.lines.specs.Texts.{Put};
+ghost use Rattle.cells.specs.Decimal.{decimal};
+ghost use Rattle.cells.specs.Texts.{Put};
 
 // The tens of a number, and the ones left over.
 struct Tens {

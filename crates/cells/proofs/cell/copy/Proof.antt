@@ -7,9 +7,9 @@ use native.Mathlib.Omega.{arith}
 use lib.ListN.{length, take, getD, set}
 use lib.Seq.{sets, take-suc, take-length, length-take-le}
 use borrow.Author.Needs.{needs}
-use Rattle.lines.proofs.Stores.{sets-append}
-use Rattle.lines.proofs.cell.copy.Statement.{statement}
-use Rattle.lines.proofs.cell.copy.Tie as tie
+use Rattle.cells.proofs.Stores.{sets-append}
+use Rattle.cells.proofs.cell.copy.Statement.{statement}
+use Rattle.cells.proofs.cell.copy.Tie as tie
 
 abbrev Inv-loop : tie.InvT-loop
 Inv-loop out₀ at text i₀ i-end out i =

@@ -2,19 +2,19 @@
 use native.Mathlib.Omega.{arith}
 use mathlib.Core.Path.{_≡_}
 use lib.ListN.{length, length-set}
-use Rattle.lines.specs.Decimal.{decimal}
-use Rattle.lines.proofs.Decimals.{decimal-one, decimal-more, length-one, length-more}
-use Rattle.lines.proofs.Stores.{sets-append}
+use Rattle.cells.specs.Decimal.{decimal}
+use Rattle.cells.proofs.Decimals.{decimal-one, decimal-more, length-one, length-more}
+use Rattle.cells.proofs.Stores.{sets-append}
 use Prim.Native.Nat.{ℕ, _+_, _/_, _≤_, _<_}
 use borrow.Author.Needs.{needs}
 use borrow.Fn.Kinds.{In}
 use borrow.Fn.PlainCycle.{Measures, is, falls, and}
-use Rattle.lines.proofs.decimal.in_tens.Reads as in-tens
-use Rattle.lines.proofs.decimal.put_digits.Reads as put-digits
-use Rattle.lines.proofs.decimal.put_digits.Kinds as put-digits-kinds
-use Rattle.lines.proofs.decimal.+put_digits.Lts-put_digits as put-digits-lts
-use Rattle.lines.proofs.decimal.+put_digits.{statement}
-use Rattle.lines.proofs.decimal.+put_digits.Tie.{close}
+use Rattle.cells.proofs.decimal.in_tens.Reads as in-tens
+use Rattle.cells.proofs.decimal.put_digits.Reads as put-digits
+use Rattle.cells.proofs.decimal.put_digits.Kinds as put-digits-kinds
+use Rattle.cells.proofs.decimal.+put_digits.Lts-put_digits as put-digits-lts
+use Rattle.cells.proofs.decimal.+put_digits.{statement}
+use Rattle.cells.proofs.decimal.+put_digits.Tie.{close}
 
 abbrev μ-put-digits : Measures 1 put-digits-kinds.ps ℕ
 μ-put-digits κs a = a .1 .1 .0
