@@ -1,6 +1,7 @@
 -- The replay without samples and coefficients, line by line. That it lists what the decoder does is proved in `replayed`.
 use Prim.Native.Nat.{ℕ}
-use mathlib.Core.List.{List}
+use mathlib.Core.Bool.{false}
+use mathlib.Core.List.{List, []}
 use Rattle.control.specs.State.{clearedRegisters}
 use Rattle.lines.specs.Listings.{Rules, nextNumber}
 use Rattle.replaying.specs.Steps.{stepped}
@@ -21,7 +22,7 @@ replayedAs line s = record { replay = record { line = nextNumber line; last = s 
 unfoldable pub replayedLine : Replay → List ℕ → Replayed
 replayedLine p line = replayedAs (p .line) (stepped (p .last) (p .registers) line)
 
--- a row has seven cells of at most 21 bytes and one, of the rounding, of at most 22
+-- Every line is listed, and no text follows the last row. A row has seven cells of at most 21 bytes and one, of the rounding, of at most 22.
 abbrev pub bareRules : Rules
 bareRules =
     record {
@@ -30,5 +31,7 @@ bareRules =
       first = first;
       moved = λ p line. replayedLine p line .replay;
       row = λ p line. rowText (p .line) (replayedLine p line .row);
+      stops = λ s. false;
+      closing = λ s. [];
       space = 169;
     }

@@ -6,7 +6,7 @@ use mathlib.Core.List.{List, [], _∷_, _++_}
 use Rattle.rates.specs.declared.answer.Answer.the-variants.{WrongFrameNumber}
 use Rattle.control.specs.declared.registers.Registers.{Registers}
 use Rattle.settling.specs.Calls.{FitState}
-use Rattle.lines.specs.Listings.{rowsFrom}
+use Rattle.lines.specs.Listings.{afterLines, rowsFrom}
 use Rattle.entries.specs.Lines.{lineRead}
 use Rattle.entries.specs.declared.line.Line.{Line}
 use Rattle.replaying.specs.Frames.{dashedRow, replayedContent}
@@ -16,7 +16,7 @@ use Rattle.replay_listing.specs.Rows.{rowText}
 use Rattle.replay_listing.specs.declared.machine.Replay.{Replay}
 use Rattle.replay_listing.specs.Bare.{replayedAs, replayedLine, bareRules}
 use Rattle.replayed.specs.Whole.{Set, Lendable, Between, skippedLine, calledRow, countedLine, movedBy, rowOf, replayRules}
-use Rattle.replayed.specs.Made.{bare, bareOf, afterLines}
+use Rattle.replayed.specs.Made.{bare, bareOf}
 use Rattle.replayed.proofs.OneCall.{config, SameCall, same-call}
 
 module _ (set : Set) (lendable : Lendable set) where

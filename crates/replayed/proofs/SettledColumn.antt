@@ -14,6 +14,7 @@ use Rattle.decoder.specs.declared.state.Decoder.{Decoder}
 use Rattle.settling.specs.Calls.{Call, after, reply, fromStart, eventsFrom, settledBy, FitState}
 use Rattle.settling.proofs.Held.{limit-found}
 use Rattle.settling.proofs.SettledExactly.{settled-exactly}
+use Rattle.lines.specs.Listings.{afterLines}
 use Rattle.entries.specs.Lines.{lineRead}
 use Rattle.entries.specs.declared.line.Content.{Content}
 use Rattle.entries.specs.declared.line.Line.{Line}
@@ -22,7 +23,7 @@ use Rattle.replaying.specs.Steps.{follows}
 use Rattle.replaying.specs.declared.frame.Columns.{Columns}
 use Rattle.replaying.specs.declared.frame.Shown.{Shown}
 use Rattle.replayed.specs.Whole.{Set, Lendable, Between, first, shownBy, given, callOf, shownOf, calledRow, countedLine, skippedLine, movedBy, rowOf, replayRules}
-use Rattle.replayed.specs.Made.{afterLines, madeBy, callsOf}
+use Rattle.replayed.specs.Made.{madeBy, callsOf}
 use Rattle.replayed.proofs.OneCall.{config, first-fit, same-call}
 use Rattle.replayed.proofs.OneLine.{lines-fit}
 

@@ -9,7 +9,7 @@ use lib.ListN.{length}
 use Rattle.rates.specs.Table.{find}
 use Rattle.control.specs.State.{clearedRegisters}
 use Rattle.decoder.specs.State.{cleared}
-use Rattle.lines.specs.Listings.{Decided, linesFrom, listingOf}
+use Rattle.lines.specs.Listings.{Decided, afterLines, linesFrom, listingOf}
 use Rattle.lines.specs.Machine.{Call, begun, calledAll, wholeText, serving}
 use Rattle.lines.proofs.WholeInput as whole
 use Rattle.entries.specs.declared.line.Line.{Line}
@@ -18,7 +18,7 @@ use Rattle.replaying.specs.Steps.{steppedLine}
 use Rattle.replay_listing.specs.Rows.{header, rowText}
 use Rattle.replay_listing.specs.Bare.{replayedAs, replayedLine, bareRules}
 use Rattle.replayed.specs.Whole.{Set, Lendable, first, replayRules, replay}
-use Rattle.replayed.specs.Made.{bareOf, afterLines}
+use Rattle.replayed.specs.Made.{bareOf}
 use Rattle.replayed.proofs.OneCall.{first-fit}
 use Rattle.replayed.proofs.OneLine.{same-rows, same-states}
 
@@ -34,7 +34,7 @@ decided =
 module _ (set : Set) (lendable : Lendable set) where
   pub as-the-decoder : (input : List ℕ) → listingOf bareRules input ≡ replay set input
   unfolding cleared clearedRegisters find
-  as-the-decoder input = ap (λ (t : List ℕ). header ++ t) (same-rows set lendable first first-fit (linesFrom [] input))
+  as-the-decoder input = ap (λ (t : List ℕ). header ++ (t ++ [])) (same-rows set lendable first first-fit (linesFrom [] input))
 
   pub kept-of-the-decoder : (ls : List (List ℕ)) → afterLines bareRules (bareRules .first) ls ≡ bareOf (afterLines (replayRules set) first ls)
   unfolding cleared clearedRegisters find

@@ -6,7 +6,6 @@ use lib.ListN.{replicate}
 use Rattle.floats.specs.Single.{0·0}
 use Rattle.control.specs.declared.registers.Registers.{Registers}
 use Rattle.settling.specs.Calls.{Call}
-use Rattle.lines.specs.Listings.{Rules}
 use Rattle.entries.specs.Lines.{lineRead}
 use Rattle.entries.specs.declared.line.Line.{Line}
 use Rattle.replaying.specs.Steps.{follows}
@@ -30,11 +29,6 @@ bare r = record {
 -- what the replay without samples and coefficients keeps of all that
 abbrev pub bareOf : Between → Replay
 bareOf s = record { line = s .line; last = s .last; registers = bare (s .decoder .registers) }
-
--- the state of a listing after some lines, in their order
-unfoldable pub afterLines : (L : Rules) → L .State → List (List ℕ) → L .State
-afterLines L s [] = s
-afterLines L s (line ∷ rest) = afterLines L (L .moved s line) rest
 
 module _ (set : Set) where
   -- a line that counts adds its call to those made before

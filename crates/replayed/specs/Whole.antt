@@ -2,8 +2,8 @@
 -- with all samples zero, and its row is read off that call.
 use Prim.Native.Nat.{ℕ}
 use mathlib.Core.Path.{_≡_}
-use mathlib.Core.Bool.{Bool, true, cond}
-use mathlib.Core.List.{List}
+use mathlib.Core.Bool.{Bool, true, false, cond}
+use mathlib.Core.List.{List, []}
 use lib.Ieee.{Float}
 use lib.ListN.{length, replicate}
 use Rattle.floats.specs.Single.{0·0}
@@ -98,6 +98,8 @@ module _ (set : Set) where
         first = first;
         moved = λ s line. movedBy s (lineRead line);
         row = λ s line. rowText (s .line) (rowOf s (lineRead line));
+        stops = λ s. false;
+        closing = λ s. [];
         space = 169;
       }
 

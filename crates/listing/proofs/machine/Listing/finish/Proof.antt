@@ -1,5 +1,6 @@
 -- `finish` writes the row of a line that is held, if there is one.
 use mathlib.Core.Path.{refl}
+use mathlib.Core.List.{append-nil}
 use borrow.Author.Tests.{eq-eqb, ne-eqb}
 use Rattle.lines.specs.Machine.{lastText}
 use borrow.Author.Needs.{needs}
@@ -12,7 +13,7 @@ returns c = rw (eq-eqb _ _ (c .if1 .taken)) (record { stored = refl; ends = refl
 
 returns-2 : tie.Need-returns-2
 unfolding lastText
-returns-2 c = rw (ne-eqb _ _ (c .before .before .if1 .left)) (c .put-held .ensures .0, c .put-held .ensures .1)
+returns-2 c = rw (ne-eqb _ _ (c .before .before .if1 .left), append-nil) (c .put-held .ensures .0, c .put-held .ensures .1)
 
 pub finish-spec : {M : Type 1} → statement M
 finish-spec = tie.close (tie.spec returns (λ c κs. search needs) returns-2)
