@@ -13,14 +13,14 @@ use Rattle.listing.proofs.LongLines.{decided}
 
 -- two runs of bytes, one after the other
 pub after-append : (m : Listing) (a b : List ℕ) → after m (a ++ b) ≡ after (after m a) b
-after-append m a b = rw (cuts.state-append lagRules (m .line) (m .held) a b, cuts.held-append (m .held) a b)
+after-append m a b = rw (cuts.state-append lagRules (m .known) (m .held) a b, cuts.held-append (m .held) a b)
 
 pub one-piece : (input : List ℕ) → header ++ text first input ++ lastText (after first input) ≡ listing input
 one-piece input = whole.one-piece lagRules decided input
 
 -- a call that is offered a byte and has space for a row takes at least one byte
 pub progress : (m : Listing) (offered : List ℕ) (free : ℕ) → 0 < length offered → 106 ≤ free → 0 < taken m offered free
-progress m offered free l r = cuts.progress lagRules (m .line) (m .held) offered free l r
+progress m offered free l r = cuts.progress lagRules (m .known) (m .held) offered free l r
 
 -- Calls are fed what is left of the input, each offered any number of its bytes and any buffer. If at least as many of them as the
 -- input has bytes are offered one and have 106 bytes of space, all is taken, and what was written is the listing of the whole input.

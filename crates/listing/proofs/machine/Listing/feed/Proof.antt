@@ -15,17 +15,17 @@ use Rattle.listing.proofs.machine.Listing.feed.Statement.{statement}
 use Rattle.listing.proofs.machine.Listing.feed.Tie as tie
 
 abbrev Inv-loop : tie.InvT-loop
-Inv-loop input out₀ line₀ held₀ at₀ used₀ out line held at used = Going lagRules input out₀ line₀ held₀ out line held at used
+Inv-loop input out₀ known₀ held₀ at₀ used₀ out known held at used = Going lagRules input out₀ known₀ held₀ out known held at used
 
 abbrev μ-loop : tie.MeasureT-loop
-μ-loop input out₀ line₀ held₀ at₀ used₀ out line held at used = length input - used
+μ-loop input out₀ known₀ held₀ at₀ used₀ out known held at used = length input - used
 
 -- in a turn there is space for a row, and the bytes of a line are none that were taken before
 space : (c : tie.Then1 Inv-loop μ-loop) → 106 ≤ length (c .before .before .loop .out) - c .before .before .loop .at
 space c = leb-true _ _ (c .if1 .taken)
 
-free : (c : tie.Then1 Inv-loop μ-loop) → full lagRules (c .before .before .loop .line) (length (c .before .before .loop .out) - c .before .before .loop .at) ≡ false
-free c = roomy lagRules (c .before .before .loop .line) _ (space c)
+free : (c : tie.Then1 Inv-loop μ-loop) → full lagRules (c .before .before .loop .known) (length (c .before .before .loop .out) - c .before .before .loop .at) ≡ false
+free c = roomy lagRules (c .before .before .loop .known) _ (space c)
 
 onward : (c : tie.After-take-line Inv-loop μ-loop) → c .before .before .before .loop .used ≤ c .take-line .result .at
 onward c = omega (arith, ap (λ (t : Taken). t .at) (c .take-line .ensures))
@@ -58,7 +58,7 @@ loop-again-2 c =
 returns : tie.Need-returns Inv-loop μ-loop
 returns c =
     let g = c .before .before .loop .inv in
-    (going-full _ _ _ _ _ _ _ _ _ _ g (short lagRules (c .before .before .loop .line) (length (c .before .before .loop .out) - c .before .before .loop .at) refl (leb-false _ _ (c .if1 .left))), (cc, (g .wrote, (g .within, omega arith))))
+    (going-full _ _ _ _ _ _ _ _ _ _ g (short lagRules (c .before .before .loop .known) (length (c .before .before .loop .out) - c .before .before .loop .at) refl (leb-false _ _ (c .if1 .left))), (cc, (g .wrote, (g .within, omega arith))))
 
 returns-2 : tie.Need-returns-2 Inv-loop μ-loop
 returns-2 c =
