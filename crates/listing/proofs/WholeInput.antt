@@ -1,15 +1,20 @@
 -- The listing of the whole input, in one piece and in any cuts: what holds of any listing, by the rules of this one.
 use Prim.Native.Nat.{ℕ, _≤_, _<_}
-use mathlib.Core.Path.{_≡_}
+use mathlib.Core.Path.{_≡_, refl}
 use mathlib.Core.List.{List, _++_}
 use lib.ListN.{length}
+use Rattle.lines.specs.Listings.{Decided}
 use Rattle.lines.specs.Machine.{Call, begun, calledAll, wholeText, serving}
 use Rattle.lines.proofs.Cuts as cuts
 use Rattle.lines.proofs.WholeInput as whole
 use Rattle.listing.specs.Whole.{header, lagRules, listing}
 use Rattle.listing.specs.Machine.{first, after, text, taken, lastText}
 use Rattle.listing.specs.declared.machine.Listing.{Listing}
-use Rattle.listing.proofs.LongLines.{decided}
+use Rattle.lag_rows.proofs.LongLines.{first-bytes}
+
+-- a line's first 32 bytes are answered as the line is
+pub decided : Decided lagRules
+decided = record { moves = λ s line. refl; answers = λ s line. rw (first-bytes line) }
 
 -- two runs of bytes, one after the other
 pub after-append : (m : Listing) (a b : List ℕ) → after m (a ++ b) ≡ after (after m a) b

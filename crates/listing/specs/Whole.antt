@@ -3,7 +3,7 @@ use Prim.Native.Nat.{ℕ}
 use mathlib.Core.Bool.{false}
 use mathlib.Core.List.{List, [], _∷_}
 use Rattle.lines.specs.Listings.{Rules, nextNumber, listingOf}
-use Rattle.listing.specs.Rows.{answerTo, rowText}
+use Rattle.lag_rows.specs.Rows.{answerTo, rowText}
 use Rattle.listing.specs.declared.machine.Known.{Known}
 
 -- line, whole, quarter, rounding, answer

@@ -1,8 +1,8 @@
 // The listing in calls, in constant memory: it takes input in pieces of any size, line by line, and
 // writes the rows into whatever space it is lent.
-use crate::row::answer_line;
-use crate::row::put_row;
 use cells::cell::put_text;
+use lag_rows::row::answer_line;
+use lag_rows::row::put_row;
 use lines::held::Held;
 use lines::held::count;
 use lines::held::take_line;
@@ -12,7 +12,7 @@ ghost use lib.ListN.{length, take};
 ghost use lib.Seq.{sets};
 ghost use Rattle.lines.specs.Machine.{heldLine};
 ghost use Rattle.cells.specs.Texts.{Written};
-ghost use Rattle.listing.specs.Rows.{answerTo, rowText};
+ghost use Rattle.lag_rows.specs.Rows.{answerTo, rowText};
 ghost use Rattle.listing.specs.Whole.{header};
 ghost use Rattle.listing.specs.Machine.{first, after, text, taken, lastText};
 

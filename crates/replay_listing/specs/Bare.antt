@@ -1,15 +1,27 @@
 -- The replay without samples and coefficients, line by line. That it lists what the decoder does is proved in `replayed`.
 use Prim.Native.Nat.{ℕ}
 use mathlib.Core.Bool.{false}
-use mathlib.Core.List.{List, []}
+use mathlib.Core.List.{List, [], _∷_}
 use Rattle.control.specs.State.{clearedRegisters}
 use Rattle.lines.specs.Listings.{Rules, nextNumber}
 use Rattle.replaying.specs.Steps.{stepped}
 use Rattle.replaying.specs.declared.step.Last.{Last}
 use Rattle.replaying.specs.declared.step.Stepped.{Stepped}
-use Rattle.replay_listing.specs.Rows.{header, rowText}
+use Rattle.replay_rows.specs.Rows.{rowText}
 use Rattle.replay_listing.specs.declared.machine.Replay.{Replay}
 use Rattle.replay_listing.specs.declared.machine.Replayed.{Replayed}
+
+-- line, case, whole, quarter, row, settled, rounding, answer
+abbrev pub header : List ℕ
+header =
+    108 ∷ 105 ∷ 110 ∷ 101 ∷ 9 ∷
+    99 ∷ 97 ∷ 115 ∷ 101 ∷ 9 ∷
+    119 ∷ 104 ∷ 111 ∷ 108 ∷ 101 ∷ 9 ∷
+    113 ∷ 117 ∷ 97 ∷ 114 ∷ 116 ∷ 101 ∷ 114 ∷ 9 ∷
+    114 ∷ 111 ∷ 119 ∷ 9 ∷
+    115 ∷ 101 ∷ 116 ∷ 116 ∷ 108 ∷ 101 ∷ 100 ∷ 9 ∷
+    114 ∷ 111 ∷ 117 ∷ 110 ∷ 100 ∷ 105 ∷ 110 ∷ 103 ∷ 9 ∷
+    97 ∷ 110 ∷ 115 ∷ 119 ∷ 101 ∷ 114 ∷ 10 ∷ []
 
 -- before the first line: no frame has counted, and the decoder is fresh
 abbrev pub first : Replay

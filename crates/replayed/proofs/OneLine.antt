@@ -12,7 +12,7 @@ use Rattle.entries.specs.declared.line.Line.{Line}
 use Rattle.replaying.specs.Frames.{dashedRow, replayedContent}
 use Rattle.replaying.specs.Steps.{follows, skipped, counted, steppedEntry, steppedLine}
 use Rattle.replaying.specs.declared.frame.Row.{Row}
-use Rattle.replay_listing.specs.Rows.{rowText}
+use Rattle.replay_rows.specs.Rows.{rowText}
 use Rattle.replay_listing.specs.declared.machine.Replay.{Replay}
 use Rattle.replay_listing.specs.Bare.{replayedAs, replayedLine, bareRules}
 use Rattle.replayed.specs.Whole.{Set, Lendable, Between, skippedLine, calledRow, countedLine, movedBy, rowOf, replayRules}

@@ -15,8 +15,8 @@ use Rattle.lines.proofs.WholeInput as whole
 use Rattle.entries.specs.declared.line.Line.{Line}
 use Rattle.entries.proofs.LongLines.{first-bytes}
 use Rattle.replaying.specs.Steps.{steppedLine}
-use Rattle.replay_listing.specs.Rows.{header, rowText}
-use Rattle.replay_listing.specs.Bare.{replayedAs, replayedLine, bareRules}
+use Rattle.replay_rows.specs.Rows.{rowText}
+use Rattle.replay_listing.specs.Bare.{header, replayedAs, replayedLine, bareRules}
 use Rattle.replayed.specs.Whole.{Set, Lendable, first, replayRules, replay}
 use Rattle.replayed.specs.Made.{bareOf}
 use Rattle.replayed.proofs.OneCall.{first-fit}

@@ -24,7 +24,8 @@ use Rattle.replaying.specs.Steps.{follows}
 use Rattle.replaying.specs.declared.frame.Shown.{Shown}
 use Rattle.replaying.specs.declared.frame.Row.{Row}
 use Rattle.replaying.specs.declared.step.Last.{Last}
-use Rattle.replay_listing.specs.Rows.{header, rowText}
+use Rattle.replay_rows.specs.Rows.{rowText}
+use Rattle.replay_listing.specs.Bare.{header}
 
 -- a lent coefficient set
 pub record Set : Type 0 where

@@ -5,6 +5,7 @@ use mathlib.Core.Bool.{false}
 use native.Mathlib.Omega.{arith}
 use borrow.Author.Tests.{leb-true, leb-false}
 use lib.ListN.{length}
+use Rattle.cells.proofs.Stores.{written}
 use Rattle.lines.specs.Machine.{full}
 use Rattle.lines.specs.declared.held.Taken.{Taken}
 use Rattle.lines.proofs.Cuts.{short, roomy}
@@ -36,9 +37,6 @@ loop-holds c = going-first _ _ _ _ _
 sub-if1 : tie.Need-sub-if1 Inv-loop μ-loop
 sub-if1 c = omega (arith, c .before .loop .inv .fits)
 
-put-row-requires : tie.Need-put-row-requires Inv-loop μ-loop
-put-row-requires c κs = omega (arith, space (c .before .before .before .before .before .before))
-
 add-used : tie.Need-add-used Inv-loop μ-loop
 add-used c = record { fits = omega (arith, c .before .before .before .before .before .before .before .before .before .before .before .before .before .before .before .before .before .before .good .1 .0 .0) }
 
@@ -52,7 +50,7 @@ loop-again c =
     let p = c .before .before .before .before in
     rw (r .replay-held .ensures)
     (going-row _ _ _ _ _ _ _ _ _ _ (t .before .before .before .loop .inv) _ _ _ (free (t .before)) (t .take-line .ensures)
-    (c .before .before .before .before .before .before .before .before .if2 .taken) (rw (r .replay-held .ensures) at (p .put-row .ensures .0)) (omega (arith, p .put-row .ensures .1, space (t .before))))
+    (c .before .before .before .before .before .before .before .before .if2 .taken) (rw (r .replay-held .ensures) at (written (p .put-row .ensures .0) (omega (arith, space (t .before))))) (omega (arith, p .put-row .ensures .1, space (t .before))))
 
 loop-again-2 : tie.Need-loop-again-2 Inv-loop μ-loop
 loop-again-2 c =
@@ -79,7 +77,7 @@ feed-spec =
     sub-if1
     (λ c κs. search needs)
     (λ c κs. search needs)
-    put-row-requires
+    (λ c κs. search needs)
     add-used
     loop-less
     loop-again

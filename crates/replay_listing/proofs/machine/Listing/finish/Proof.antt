@@ -1,7 +1,9 @@
 -- `finish` writes the row of a line that is held, if there is one.
 use mathlib.Core.Path.{refl}
+use native.Mathlib.Omega.{arith}
 use mathlib.Core.List.{append-nil}
 use borrow.Author.Tests.{eq-eqb, ne-eqb}
+use Rattle.cells.proofs.Stores.{written}
 use Rattle.lines.specs.Machine.{lastText}
 use borrow.Author.Needs.{needs}
 use Rattle.replay_listing.proofs.machine.Listing.finish.Statement.{statement}
@@ -14,7 +16,7 @@ returns c = rw (eq-eqb _ _ (c .if1 .taken)) (record { stored = refl; ends = refl
 returns-2 : tie.Need-returns-2
 unfolding lastText
 returns-2 c =
-    rw (ne-eqb _ _ (c .before .before .before .before .if1 .left), append-nil, ← c .before .before .before .replay-held .ensures) (c .put-row .ensures .0, c .put-row .ensures .1)
+    rw (ne-eqb _ _ (c .before .before .before .before .if1 .left), append-nil, ← c .before .before .before .replay-held .ensures) (written (c .put-row .ensures .0) (omega arith), c .put-row .ensures .1)
 
 pub finish-spec : {M : Type 1} → statement M
 finish-spec = tie.close (tie.spec returns (λ c κs. search needs) (λ c κs. search needs) returns-2)
