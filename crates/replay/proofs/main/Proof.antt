@@ -1,32 +1,34 @@
--- `pump_cut` ends: each turn takes a piece that is not empty.
-use Prim.Native.Nat.{_-_, _≤_}
+-- `main` replays the files of its arguments, one after the other.
+use Prim.Native.Nat.{_-_}
 use mathlib.Core.Path.{_≡_}
 use lib.ListN.{length}
 use borrow.Author.Needs.{needs}
-use Rattle.listing_test.proofs.pump_cut.Statement.{statement}
-use Rattle.listing_test.proofs.pump_cut.Tie as tie
+use Rattle.replay.proofs.main.Statement.{statement}
+use Rattle.replay.proofs.main.Tie as tie
 
 abbrev Inv-loop : tie.InvT-loop
-Inv-loop input cut out₀ pumped₀ at₀ out pumped at = (at ≤ length input) × (length out ≡ length out₀)
+Inv-loop n name₀ i₀ name i = 4096 ≡ length name
 
 abbrev μ-loop : tie.MeasureT-loop
-μ-loop input cut out₀ pumped₀ at₀ out pumped at = length input - at
+μ-loop n name₀ i₀ name i = n - i
 
-pub pump-cut-spec : {M : Type 1} → statement M
-pump-cut-spec =
+pub main-spec : {M : Type 1} → statement M
+main-spec =
     tie.close
     (tie.spec
     Inv-loop
     μ-loop
+    (λ c κs. search needs)
+    (λ c. search needs)
+    (λ c κs. search needs)
     (λ c. search needs)
     (λ c κs. search needs)
     (λ c. search needs)
     (λ c. search needs)
-    (λ c. search needs)
+    (λ c κs. search needs)
     (λ c. search needs)
     (λ c. search needs)
     (λ c κs. search needs)
-    (λ c. search needs)
     (λ c. search needs)
     (λ c. search needs)
     (λ c. search needs)

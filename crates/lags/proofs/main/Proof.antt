@@ -3,14 +3,14 @@ use Prim.Native.Nat.{_-_}
 use mathlib.Core.Path.{_≡_}
 use lib.ListN.{length}
 use borrow.Author.Needs.{needs}
-use Rattle.listing_test.proofs.main.Statement.{statement}
-use Rattle.listing_test.proofs.main.Tie as tie
+use Rattle.lags.proofs.main.Statement.{statement}
+use Rattle.lags.proofs.main.Tie as tie
 
 abbrev Inv-loop : tie.InvT-loop
-Inv-loop n path₀ i₀ path i = 4096 ≡ length path
+Inv-loop n name₀ i₀ name i = 4096 ≡ length name
 
 abbrev μ-loop : tie.MeasureT-loop
-μ-loop n path₀ i₀ path i = n - i
+μ-loop n name₀ i₀ name i = n - i
 
 pub main-spec : {M : Type 1} → statement M
 main-spec =
@@ -21,14 +21,15 @@ main-spec =
     (λ c κs. search needs)
     (λ c. search needs)
     (λ c κs. search needs)
-    (λ c κs. search needs)
-    (λ c κs. search needs)
-    (λ c. search needs)
     (λ c. search needs)
     (λ c κs. search needs)
     (λ c. search needs)
     (λ c. search needs)
     (λ c κs. search needs)
+    (λ c. search needs)
+    (λ c. search needs)
+    (λ c κs. search needs)
+    (λ c. search needs)
     (λ c. search needs)
     (λ c. search needs)
     (λ c. search needs)
