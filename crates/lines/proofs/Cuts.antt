@@ -11,7 +11,7 @@ use lib.ListN.{length, take, drop}
 use lib.Seq.{take-add}
 use Rattle.lines.specs.Fields.{byteAt}
 use Rattle.lines.specs.Listings.{Rules}
-use Rattle.lines.specs.Machine.{heldLine, heldStep, heldAfter, stateStep, emitted, stateAfter, text, full, taken}
+use Rattle.lines.specs.Machine.{heldStep, heldAfter, stateStep, emitted, stateAfter, text, full, taken}
 use Rattle.lines.specs.declared.held.Held.{Held}
 
 pub held-append : (h : Held) (a b : List ℕ) → heldAfter h (a ++ b) ≡ heldAfter (heldAfter h a) b

@@ -11,7 +11,7 @@ use lib.Dec.{eqb, ltb, leb}
 use lib.ListN.{length, take, drop, set, length-append, length-set, length-take, length-drop, take-append-drop}
 use lib.Seq.{take-suc-set, take-all, take-append-le, take-take}
 use Rattle.lines.specs.Listings.{Rules, Decided, lastLine, rowAt, stateAt, linesFrom, afterLines, rowsFrom, listedFrom, listingOf}
-use Rattle.lines.specs.Machine.{emptied, nothingHeld, heldLine, heldStep, heldAfter, stateStep, emitted, stateAfter, text, taken, lastText}
+use Rattle.lines.specs.Machine.{emptied, nothingHeld, heldLine, heldStep, heldAfter, stateStep, emitted, stateAfter, text, lastText}
 use Rattle.lines.specs.Machine.{Call, Run, begun, offered, takenBy, called, calledAll, wholeText, serving}
 use Rattle.lines.specs.declared.held.Held.{Held}
 use Rattle.lines.proofs.Cuts.{held-append, state-append, text-append, progress, taken-fits}

@@ -24,8 +24,8 @@ header =
     97 ∷ 110 ∷ 115 ∷ 119 ∷ 101 ∷ 114 ∷ 10 ∷ []
 
 -- before the first line: no frame has counted, and the decoder is fresh
-abbrev pub first : Replay
-first = record { line = 1; last = Last.None; registers = clearedRegisters 48000 10000 }
+abbrev pub firstAt : ℕ → ℕ → Replay
+firstAt rate duration = record { line = 1; last = Last.None; registers = clearedRegisters rate duration }
 
 abbrev pub replayedAs : ℕ → Stepped → Replayed
 replayedAs line s = record { replay = record { line = nextNumber line; last = s .last; registers = s .registers }; row = s .row }
@@ -35,15 +35,19 @@ unfoldable pub replayedLine : Replay → List ℕ → Replayed
 replayedLine p line = replayedAs (p .line) (stepped (p .last) (p .registers) line)
 
 -- Every line is listed, and no text follows the last row. A row has seven cells of at most 21 bytes and one, of the rounding, of at most 22.
-abbrev pub bareRules : Rules
-bareRules =
+abbrev pub bareRulesAt : ℕ → ℕ → Rules
+bareRulesAt rate duration =
     record {
       State = Replay;
       header = header;
-      first = first;
+      first = firstAt rate duration;
       moved = λ p line. replayedLine p line .replay;
       row = λ p line. rowText (p .line) (replayedLine p line .row);
       stops = λ s. false;
       closing = λ s. [];
       space = 169;
     }
+
+-- the listing is of 48000 Hz and 10 ms
+abbrev pub bareRules : Rules
+bareRules = bareRulesAt 48000 10000

@@ -1,7 +1,6 @@
 -- `end` writes the part of its buffer that holds the last row.
 use mathlib.Core.Path.{sym}
 use native.Mathlib.Omega.{arith}
-use lib.ListN.{length}
 use lib.Seq.{length-take-le}
 use Rattle.cells.proofs.Stores.{written-length}
 use borrow.Author.Needs.{needs}
