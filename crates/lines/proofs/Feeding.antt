@@ -1,4 +1,4 @@
--- A loop that feeds a listing line by line: where it stands between two lines, and that this is what the definition says.
+-- A loop that feeds a listing line by line: where it stands between two lines, and that this is what the definition says; and its end.
 use Prim.Native.Nat.{ℕ, suc, _+_, _-_, _≤_, _<_}
 use mathlib.Core.Path.{_≡_, refl, sym, ap, _∙_}
 use mathlib.Core.Bool.{Bool, true, false, cond}
@@ -6,14 +6,14 @@ use mathlib.Core.List.{List, [], _∷_, _++_, append-nil}
 use native.Mathlib.Nat.{zero-add, add-zero, sub-zero}
 use native.Mathlib.Numerals.{add-one}
 use native.Mathlib.Omega.{arith}
-use borrow.Author.Tests.{eqb-true}
+use borrow.Author.Tests.{eqb-true, eq-eqb, ne-eqb}
 use lib.Dec.{eqb}
 use lib.ListN.{length, take, drop, getD, length-drop, drop-of-length-le}
 use lib.Seq.{take-add, take-suc, drop-cons, drop-drop, getD-drop}
 use Rattle.lines.specs.Fields.{byteAt}
 use Rattle.cells.specs.Texts.{Written}
 use Rattle.lines.specs.Listings.{Rules, rowAt, stateAt}
-use Rattle.lines.specs.Machine.{emptied, heldLine, heldStep, heldAfter, lineTaken, stateStep, emitted, stateAfter, text, full, taken}
+use Rattle.lines.specs.Machine.{emptied, heldLine, heldStep, heldAfter, lineTaken, stateStep, emitted, stateAfter, text, full, taken, lastText}
 use Rattle.lines.specs.declared.held.Held.{Held}
 use Rattle.lines.specs.declared.held.Taken.{Taken}
 use Rattle.cells.proofs.Stores.{written-then, written-length}
@@ -114,3 +114,13 @@ module _ (L : Rules) (input out₀ : List ℕ) (s₀ : L .State) (h₀ : Held) w
       let inside : k < length (drop used input) = rw length-drop (omega arith) in
       let newline : getD input (t .at) 0 ≡ 10 = rw (where-it-ends, ← getD-drop used input k 0) (at-newline (drop used input) inside) in
       going-newline out s (t .held) at (t .at) (going-held out s h at used g t r e) out′ at′ r u newline w f
+
+-- at the end: nothing is held, or a last line
+module _ (L : Rules) (s : L .State) (h : Held) where
+  pub last-none : h .len ≡ 0 → lastText L s h ≡ L .closing s
+  unfolding lastText
+  last-none e = rw (eq-eqb (h .len) 0 e)
+
+  pub last-some : (h .len ≡ 0 → ⊥) → lastText L s h ≡ rowAt L s (heldLine h) ++ L .closing (stateAt L s (heldLine h))
+  unfolding lastText
+  last-some n = rw (ne-eqb (h .len) 0 n)

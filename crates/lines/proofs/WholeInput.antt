@@ -12,7 +12,7 @@ use lib.ListN.{length, take, drop, set, length-append, length-set, length-take, 
 use lib.Seq.{take-suc-set, take-all, take-append-le, take-take}
 use Rattle.lines.specs.Listings.{Rules, Decided, lastLine, rowAt, stateAt, linesFrom, afterLines, rowsFrom, listedFrom, listingOf}
 use Rattle.lines.specs.Machine.{emptied, nothingHeld, heldLine, heldStep, heldAfter, stateStep, emitted, stateAfter, text, lastText}
-use Rattle.lines.specs.Machine.{Call, Run, begun, offered, takenBy, called, calledAll, wholeText, serving}
+use Rattle.lines.specs.Machine.{Call, Reading, begun, offered, takenBy, called, calledAll, wholeText, serving}
 use Rattle.lines.specs.declared.held.Held.{Held}
 use Rattle.lines.proofs.Cuts.{held-append, state-append, text-append, progress, taken-fits}
 
@@ -118,7 +118,7 @@ module _ (L : Rules) where
   none-after-a-stop s e (line ∷ rest) = rw e (none-after-a-stop s e rest)
 
   -- all text once the input that is left is fed in one piece
-  ending : Run L → List ℕ
+  ending : Reading L → List ℕ
   ending f = f .texts ++ rest L (f .state) (f .held) (f .left)
 
   -- a call that takes a part of what is left leaves the whole text as it is
@@ -128,30 +128,30 @@ module _ (L : Rules) where
   in-two s h t a b = rw (text-append L s h a b, state-append L s h a b, held-append h a b) (simp append-assoc)
 
   -- what it takes of the bytes that it is offered are the first of what is left
-  of-all : (f : Run L) (c : Call) → take (takenBy L f c) (offered L f c) ≡ take (takenBy L f c) (f .left)
+  of-all : (f : Reading L) (c : Call) → take (takenBy L f c) (offered L f c) ≡ take (takenBy L f c) (f .left)
   unfolding takenBy
   of-all f c =
       take-take (takenBy L f c) (c .cut) (f .left)
       (omega (arith, taken-fits L (f .state) (f .held) (offered L f c) (c .buffer), length-take (c .cut) (f .left)))
 
-  call-keeps : (f : Run L) (c : Call) → ending f ≡ ending (called L f c)
+  call-keeps : (f : Reading L) (c : Call) → ending f ≡ ending (called L f c)
   unfolding ending called
   call-keeps f c =
       ap (λ (l : List ℕ). f .texts ++ rest L (f .state) (f .held) l) (sym (take-append-drop (takenBy L f c) (f .left))) ∙
       rw (of-all f c) (in-two (f .state) (f .held) (f .texts) (take (takenBy L f c) (f .left)) (drop (takenBy L f c) (f .left)))
 
-  calls-keep : (f : Run L) (cs : List Call) → ending f ≡ ending (calledAll L f cs)
+  calls-keep : (f : Reading L) (cs : List Call) → ending f ≡ ending (calledAll L f cs)
   unfolding calledAll
   calls-keep f [] = refl
   calls-keep f (c ∷ cs) = call-keeps f c ∙ calls-keep (called L f c) cs
 
   -- a call that is offered a byte and has space for a row takes at least one
-  pub takes-one : (f : Run L) (c : Call) → 0 < length (f .left) → 1 ≤ c .cut → L .space ≤ c .buffer → 0 < takenBy L f c
+  pub takes-one : (f : Reading L) (c : Call) → 0 < length (f .left) → 1 ≤ c .cut → L .space ≤ c .buffer → 0 < takenBy L f c
   unfolding takenBy
   takes-one f c l o r = progress L (f .state) (f .held) (take (c .cut) (f .left)) (c .buffer) (rw length-take (omega arith)) r
 
   -- enough such calls take every byte
-  pub all-taken : (cs : List Call) (f : Run L) → length (f .left) ≤ serving L cs → calledAll L f cs .left ≡ []
+  pub all-taken : (cs : List Call) (f : Reading L) → length (f .left) ≤ serving L cs → calledAll L f cs .left ≡ []
   unfolding calledAll serving called
   all-taken [] f l = empty (f .left) l
     where

@@ -69,26 +69,26 @@ module _ (L : Rules) where
   unfoldable pub lastText : L .State → Held → List ℕ
   lastText s h = cond (eqb (h .len) 0) (L .closing s) (rowAt L s (heldLine h) ++ L .closing (stateAt L s (heldLine h)))
 
-  -- where a run of calls stands: the state, what is held, the input that is left, and all text so far.
-  pub record Run : Type 0 where
+  -- where a reading of the input in calls stands: the state, what is held, the input that is left, and all text so far.
+  pub record Reading : Type 0 where
     pub state : L .State
     pub held : Held
     pub left : List ℕ
     pub texts : List ℕ
 
   -- before the first call the header is written
-  abbrev pub begun : List ℕ → Run
+  abbrev pub begun : List ℕ → Reading
   begun input = record { state = L .first; held = nothingHeld; left = input; texts = L .header }
 
   -- the bytes that a call is offered, and how many of them it takes
-  abbrev pub offered : Run → Call → List ℕ
+  abbrev pub offered : Reading → Call → List ℕ
   offered f c = take (c .cut) (f .left)
 
-  unfoldable pub takenBy : Run → Call → ℕ
+  unfoldable pub takenBy : Reading → Call → ℕ
   takenBy f c = taken (f .state) (f .held) (offered f c) (c .buffer)
 
   -- it writes their text, and the next call is offered what is left
-  unfoldable pub called : Run → Call → Run
+  unfoldable pub called : Reading → Call → Reading
   called f c =
       record {
         state = stateAfter (f .state) (f .held) (take (takenBy f c) (offered f c));
@@ -97,12 +97,12 @@ module _ (L : Rules) where
         texts = f .texts ++ text (f .state) (f .held) (take (takenBy f c) (offered f c));
       }
 
-  unfoldable pub calledAll : Run → List Call → Run
+  unfoldable pub calledAll : Reading → List Call → Reading
   calledAll f [] = f
   calledAll f (c ∷ cs) = calledAll (called f c) cs
 
   -- all text, once the last line's row and the closing text are written
-  abbrev pub wholeText : Run → List ℕ
+  abbrev pub wholeText : Reading → List ℕ
   wholeText f = f .texts ++ lastText (f .state) (f .held)
 
   -- how many of some calls are offered a byte and have space for a row
