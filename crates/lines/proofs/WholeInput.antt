@@ -10,9 +10,9 @@ use borrow.Author.Tests.{ltb-true, ltb-false, leb-true, eq-eqb, ne-eqb}
 use lib.Dec.{eqb, ltb, leb}
 use lib.ListN.{length, take, drop, set, length-append, length-set, length-take, length-drop, take-append-drop}
 use lib.Seq.{take-suc-set, take-all, take-append-le, take-take}
-use Rattle.lines.specs.Listings.{Rules, Decided, lastLine, linesFrom, rowsFrom, listingOf}
-use Rattle.lines.specs.Machine.{emptied, nothingHeld, heldLine, heldStep, heldAfter, stateStep, emitted, stateAfter, text, taken, lastText}
-use Rattle.lines.specs.Machine.{Call, Run, begun, offered, takenBy, called, calledAll, wholeText, serving}
+use Rattle.lines.specs.Listings.{Rules, Decided, lastLine, rowAt, stateAt, linesFrom, afterLines, rowsFrom, listedFrom, listingOf}
+use Rattle.lines.specs.Machine.{emptied, nothingHeld, heldLine, heldStep, heldAfter, stateStep, emitted, stateAfter, text, lastText}
+use Rattle.lines.specs.Machine.{Call, Reading, begun, offered, takenBy, called, calledAll, wholeText, serving}
 use Rattle.lines.specs.declared.held.Held.{Held}
 use Rattle.lines.proofs.Cuts.{held-append, state-append, text-append, progress, taken-fits}
 
@@ -63,36 +63,37 @@ module _ (L : Rules) where
   rest s h bs = text L s h bs ++ lastText L (stateAfter L s h bs) (heldAfter h bs)
 
 module _ (L : Rules) (decided : Decided L) where
-  held-row : (s : L .State) (h : Held) (line : List ℕ) → Holds h line → L .row s (heldLine h) ≡ L .row s line
+  held-row : (s : L .State) (h : Held) (line : List ℕ) → Holds h line → rowAt L s (heldLine h) ≡ rowAt L s line
   held-row s h line held = rw (held .bytes, decided .answers s line)
 
-  held-moves : (s : L .State) (h : Held) (line : List ℕ) → Holds h line → L .moved s (heldLine h) ≡ L .moved s line
+  held-moves : (s : L .State) (h : Held) (line : List ℕ) → Holds h line → stateAt L s (heldLine h) ≡ stateAt L s line
   held-moves s h line held = rw (held .bytes, decided .moves s line)
 
   -- at the end of the input
-  last-row : (s : L .State) (h : Held) (line : List ℕ) → Holds h line → lastText L s h ≡ rowsFrom L s (lastLine line)
-  unfolding lastText rowsFrom
+  last-row : (s : L .State) (h : Held) (line : List ℕ) → Holds h line → lastText L s h ≡ listedFrom L s (lastLine line)
+  unfolding lastText rowsFrom afterLines
   last-row s h [] held = rw (eq-eqb (h .len) 0 (omega (arith, held .count)))
-  last-row s h (b ∷ bs) held = rw (ne-eqb (h .len) 0 (λ e. omega (arith, held .count)), held-row s h (b ∷ bs) held, append-nil)
+  last-row s h (b ∷ bs) held = rw (ne-eqb (h .len) 0 (λ e. omega (arith, held .count)), held-row s h (b ∷ bs) held, held-moves s h (b ∷ bs) held, append-nil)
 
-  -- the rows that a machine still writes are those of the lines that are left
+  -- what a machine still writes is what is listed of the lines that are left
   Left : List ℕ → L .State → Held → List ℕ → Type 0
-  Left bs s h line = Holds h line → rest L s h bs ≡ rowsFrom L s (linesFrom line bs)
+  Left bs s h line = Holds h line → rest L s h bs ≡ listedFrom L s (linesFrom line bs)
 
   turn : (s : L .State) (h : Held) (line bs : List ℕ) (b : ℕ) → ((s′ : L .State) (h′ : Held) (line′ : List ℕ) → Left bs s′ h′ line′) → Left (b ∷ bs) s h line
-  unfolding Left rest text stateAfter heldAfter linesFrom rowsFrom stateStep heldStep emitted with-byte
+  unfolding Left rest text stateAfter heldAfter linesFrom rowsFrom afterLines stateStep heldStep emitted with-byte
   turn s h line bs b left held = go (eqb b 10)
     where
       go : (t : Bool) →
-          (cond t (L .row s (heldLine h)) [] ++ text L (cond t (L .moved s (heldLine h)) s) (cond t (emptied h) (with-byte h b)) bs) ++
-          lastText L (stateAfter L (cond t (L .moved s (heldLine h)) s) (cond t (emptied h) (with-byte h b)) bs) (heldAfter (cond t (emptied h) (with-byte h b)) bs) ≡
-          rowsFrom L s (cond t (line ∷ linesFrom [] bs) (linesFrom (line ++ (b ∷ [])) bs))
+          (cond t (rowAt L s (heldLine h)) [] ++ text L (cond t (stateAt L s (heldLine h)) s) (cond t (emptied h) (with-byte h b)) bs) ++
+          lastText L (stateAfter L (cond t (stateAt L s (heldLine h)) s) (cond t (emptied h) (with-byte h b)) bs) (heldAfter (cond t (emptied h) (with-byte h b)) bs) ≡
+          listedFrom L s (cond t (line ∷ linesFrom [] bs) (linesFrom (line ++ (b ∷ [])) bs))
       go true =
           rw (
-            append-assoc,
-            left (L .moved s (heldLine h)) (emptied h) [] (record { bytes = refl; count = refl; size = held .size }),
+            append-assoc (rowAt L s (heldLine h)),
+            left (stateAt L s (heldLine h)) (emptied h) [] (record { bytes = refl; count = refl; size = held .size }),
             held-row s h line held,
             held-moves s h line held,
+            append-assoc,
           )
       go false = left s (with-byte h b) (line ++ (b ∷ [])) (byte-held h line b held)
 
@@ -110,8 +111,14 @@ module _ (L : Rules) (decided : Decided L) where
       rw (append-assoc, rows-left input (L .first) nothingHeld [] (record { bytes = refl; count = refl; size = refl }))
 
 module _ (L : Rules) where
+  -- from a state that stops on, lines are not listed
+  pub none-after-a-stop : (s : L .State) → L .stops s ≡ true → (lines : List (List ℕ)) → listedFrom L s lines ≡ L .closing s
+  unfolding rowsFrom afterLines
+  none-after-a-stop s e [] = refl
+  none-after-a-stop s e (line ∷ rest) = rw e (none-after-a-stop s e rest)
+
   -- all text once the input that is left is fed in one piece
-  ending : Run L → List ℕ
+  ending : Reading L → List ℕ
   ending f = f .texts ++ rest L (f .state) (f .held) (f .left)
 
   -- a call that takes a part of what is left leaves the whole text as it is
@@ -121,30 +128,30 @@ module _ (L : Rules) where
   in-two s h t a b = rw (text-append L s h a b, state-append L s h a b, held-append h a b) (simp append-assoc)
 
   -- what it takes of the bytes that it is offered are the first of what is left
-  of-all : (f : Run L) (c : Call) → take (takenBy L f c) (offered L f c) ≡ take (takenBy L f c) (f .left)
+  of-all : (f : Reading L) (c : Call) → take (takenBy L f c) (offered L f c) ≡ take (takenBy L f c) (f .left)
   unfolding takenBy
   of-all f c =
       take-take (takenBy L f c) (c .cut) (f .left)
       (omega (arith, taken-fits L (f .state) (f .held) (offered L f c) (c .buffer), length-take (c .cut) (f .left)))
 
-  call-keeps : (f : Run L) (c : Call) → ending f ≡ ending (called L f c)
+  call-keeps : (f : Reading L) (c : Call) → ending f ≡ ending (called L f c)
   unfolding ending called
   call-keeps f c =
       ap (λ (l : List ℕ). f .texts ++ rest L (f .state) (f .held) l) (sym (take-append-drop (takenBy L f c) (f .left))) ∙
       rw (of-all f c) (in-two (f .state) (f .held) (f .texts) (take (takenBy L f c) (f .left)) (drop (takenBy L f c) (f .left)))
 
-  calls-keep : (f : Run L) (cs : List Call) → ending f ≡ ending (calledAll L f cs)
+  calls-keep : (f : Reading L) (cs : List Call) → ending f ≡ ending (calledAll L f cs)
   unfolding calledAll
   calls-keep f [] = refl
   calls-keep f (c ∷ cs) = call-keeps f c ∙ calls-keep (called L f c) cs
 
   -- a call that is offered a byte and has space for a row takes at least one
-  pub takes-one : (f : Run L) (c : Call) → 0 < length (f .left) → 1 ≤ c .cut → L .space ≤ c .buffer → 0 < takenBy L f c
+  pub takes-one : (f : Reading L) (c : Call) → 0 < length (f .left) → 1 ≤ c .cut → L .space ≤ c .buffer → 0 < takenBy L f c
   unfolding takenBy
   takes-one f c l o r = progress L (f .state) (f .held) (take (c .cut) (f .left)) (c .buffer) (rw length-take (omega arith)) r
 
   -- enough such calls take every byte
-  pub all-taken : (cs : List Call) (f : Run L) → length (f .left) ≤ serving L cs → calledAll L f cs .left ≡ []
+  pub all-taken : (cs : List Call) (f : Reading L) → length (f .left) ≤ serving L cs → calledAll L f cs .left ≡ []
   unfolding calledAll serving called
   all-taken [] f l = empty (f .left) l
     where

@@ -1,6 +1,4 @@
--- Tab-parted text, and listings of it.
+-- The fields of a line, and listings of lines.
 pub mod Fields
-pub mod Decimal
-pub mod Texts
 pub mod Listings
 pub mod Machine

@@ -1,11 +1,11 @@
 -- A listing byte by byte, in calls: what is held of a line, and what each byte and each call make of it.
 use Prim.Native.Nat.{ℕ, zero, suc, _+_, _-_}
-use mathlib.Core.Bool.{cond, _&&_}
+use mathlib.Core.Bool.{Bool, cond, not, _&&_}
 use mathlib.Core.List.{List, [], _∷_, _++_}
 use lib.Dec.{leb, ltb, eqb}
 use lib.ListN.{length, take, drop, set, replicate}
 use Rattle.lines.specs.Fields.{byteAt}
-use Rattle.lines.specs.Listings.{Rules}
+use Rattle.lines.specs.Listings.{Rules, rowAt, stateAt}
 use Rattle.lines.specs.declared.held.Held.{Held}
 use Rattle.lines.specs.declared.held.Taken.{Taken}
 
@@ -41,10 +41,10 @@ pub record Call : Type 0 where
 module _ (L : Rules) where
   -- a newline ends the line that is held: the state moves on, and the row is written
   unfoldable pub stateStep : L .State → Held → ℕ → L .State
-  stateStep s h b = cond (eqb b 10) (L .moved s (heldLine h)) s
+  stateStep s h b = cond (eqb b 10) (stateAt L s (heldLine h)) s
 
   unfoldable pub emitted : L .State → Held → ℕ → List ℕ
-  emitted s h b = cond (eqb b 10) (L .row s (heldLine h)) []
+  emitted s h b = cond (eqb b 10) (rowAt L s (heldLine h)) []
 
   -- the state after some bytes, and the text that they make
   unfoldable pub stateAfter : L .State → Held → List ℕ → L .State
@@ -55,36 +55,40 @@ module _ (L : Rules) where
   text s h [] = []
   text s h (b ∷ bs) = emitted s h b ++ text (stateStep s h b) (heldStep h b) bs
 
-  -- how many bytes a call takes: all, or those before the first at which fewer than `space` bytes are free to write into
+  -- a call can go no further where fewer than `space` bytes are free to write into; a listing that has stopped writes no row, and needs none
+  abbrev pub full : L .State → ℕ → Bool
+  full s free = not (L .stops s) && ltb free (L .space)
+
+  -- how many bytes a call takes: all, or those before the first at which it can go no further
   unfoldable pub taken : L .State → Held → List ℕ → ℕ → ℕ
   taken s h [] free = zero
   taken s h (b ∷ bs) free =
-      cond (ltb free (L .space)) zero (suc (taken (stateStep s h b) (heldStep h b) bs (free - length (emitted s h b))))
+      cond (full s free) zero (suc (taken (stateStep s h b) (heldStep h b) bs (free - length (emitted s h b))))
 
-  -- a last line without a newline has a row too
+  -- at the end: a last line without a newline has a row too, and then the listing is closed
   unfoldable pub lastText : L .State → Held → List ℕ
-  lastText s h = cond (eqb (h .len) 0) [] (L .row s (heldLine h))
+  lastText s h = cond (eqb (h .len) 0) (L .closing s) (rowAt L s (heldLine h) ++ L .closing (stateAt L s (heldLine h)))
 
-  -- where a run of calls stands: the state, what is held, the input that is left, and all text so far.
-  pub record Run : Type 0 where
+  -- where a reading of the input in calls stands: the state, what is held, the input that is left, and all text so far.
+  pub record Reading : Type 0 where
     pub state : L .State
     pub held : Held
     pub left : List ℕ
     pub texts : List ℕ
 
   -- before the first call the header is written
-  abbrev pub begun : List ℕ → Run
+  abbrev pub begun : List ℕ → Reading
   begun input = record { state = L .first; held = nothingHeld; left = input; texts = L .header }
 
   -- the bytes that a call is offered, and how many of them it takes
-  abbrev pub offered : Run → Call → List ℕ
+  abbrev pub offered : Reading → Call → List ℕ
   offered f c = take (c .cut) (f .left)
 
-  unfoldable pub takenBy : Run → Call → ℕ
+  unfoldable pub takenBy : Reading → Call → ℕ
   takenBy f c = taken (f .state) (f .held) (offered f c) (c .buffer)
 
   -- it writes their text, and the next call is offered what is left
-  unfoldable pub called : Run → Call → Run
+  unfoldable pub called : Reading → Call → Reading
   called f c =
       record {
         state = stateAfter (f .state) (f .held) (take (takenBy f c) (offered f c));
@@ -93,12 +97,12 @@ module _ (L : Rules) where
         texts = f .texts ++ text (f .state) (f .held) (take (takenBy f c) (offered f c));
       }
 
-  unfoldable pub calledAll : Run → List Call → Run
+  unfoldable pub calledAll : Reading → List Call → Reading
   calledAll f [] = f
   calledAll f (c ∷ cs) = calledAll (called f c) cs
 
-  -- all text, once the last line's row is written
-  abbrev pub wholeText : Run → List ℕ
+  -- all text, once the last line's row and the closing text are written
+  abbrev pub wholeText : Reading → List ℕ
   wholeText f = f .texts ++ lastText (f .state) (f .held)
 
   -- how many of some calls are offered a byte and have space for a row

@@ -1,6 +1,3 @@
-// Tab-parted text: the fields of a line, the cells of a row, and the line that is being read.
-pub mod cell;
-pub mod decimal;
+// Tab-parted text that is read: the fields of a line, and the line that is being read.
 pub mod field;
 pub mod held;
-pub mod signed;

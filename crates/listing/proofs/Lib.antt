@@ -1,3 +1,2 @@
--- The listing's laws: lines that are too long, and the whole input.
-pub mod LongLines
+-- The listing's laws, of the whole input.
 pub mod WholeInput

@@ -1,4 +1,3 @@
 -- The listing of lags.
-pub mod Rows
 pub mod Whole
 pub mod Machine

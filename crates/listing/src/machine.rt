@@ -1,8 +1,8 @@
 // The listing in calls, in constant memory: it takes input in pieces of any size, line by line, and
 // writes the rows into whatever space it is lent.
-use crate::row::answer_line;
-use crate::row::put_row;
-use lines::cell::put_text;
+use cells::cell::put_text;
+use lag_rows::row::answer_line;
+use lag_rows::row::put_row;
 use lines::held::Held;
 use lines::held::count;
 use lines::held::take_line;
@@ -11,14 +11,19 @@ ghost use Prim.Native.Nat.{_+_, _≤_};
 ghost use lib.ListN.{length, take};
 ghost use lib.Seq.{sets};
 ghost use Rattle.lines.specs.Machine.{heldLine};
-ghost use Rattle.lines.specs.Texts.{Written};
-ghost use Rattle.listing.specs.Rows.{answerTo, rowText};
+ghost use Rattle.cells.specs.Texts.{Written};
+ghost use Rattle.lag_rows.specs.Rows.{answerTo, rowText};
 ghost use Rattle.listing.specs.Whole.{header};
 ghost use Rattle.listing.specs.Machine.{first, after, text, taken, lastText};
 
-// The number of the line that is being read, and what is held of it.
-pub struct Listing {
+// What is known between two lines: the number of the next one.
+pub struct Known {
     pub line: u64,
+}
+
+// What was known before the line that is being read, and what is held of it.
+pub struct Listing {
+    pub known: Known,
     pub held: Held,
 }
 
@@ -40,7 +45,7 @@ pub fn start(out: &mut [u8; 128]) -> Fed
     let written = put_text(out, 0, b"line\twhole\tquarter\trounding\tanswer\n");
     Fed {
         listing: Listing {
-            line: 1,
+            known: Known { line: 1 },
             held: Held {
                 bytes: [0; 32],
                 len: 0,
@@ -52,15 +57,15 @@ pub fn start(out: &mut [u8; 128]) -> Fed
 }
 
 // The row of the line that is held.
-fn put_held(out: &mut [u8], at: usize, line: u64, held: Held) -> usize
+fn put_held(out: &mut [u8], at: usize, known: Known, held: Held) -> usize
     requires { ⌜ at + 106 ≤ length (now out) ⌝ }
-    ensures { λ r. ⌜ Written (now (out .entry)) at (rowText line (answerTo (heldLine held))) (now (out .exit)) r ⌝ }
+    ensures { λ r. ⌜ Written (now (out .entry)) at (rowText (known .line) (answerTo (heldLine held))) (now (out .exit)) r ⌝ }
     ensures { λ r. ⌜ r ≤ at + 106 ⌝ }
 {
     let n = count(held);
     let bytes = held.bytes;
     let row = answer_line(&bytes[..n]);
-    put_row(out, at, line, row)
+    put_row(out, at, known.line, row)
 }
 
 impl Listing {
@@ -71,7 +76,7 @@ impl Listing {
         ensures { λ r. ⌜ Written (now (out .entry)) 0 (text self (take (r .used) (now (input .entry)))) (now (out .exit)) (r .written) ⌝ }
         ensures { λ r. ⌜ (r .used ≤ length (now (input .entry))) × (r .written ≤ length (now (out .entry))) ⌝ }
     {
-        let mut line = self.line;
+        let mut known = self.known;
         let mut held = self.held;
         let mut at = 0;
         let mut used = 0;
@@ -81,15 +86,17 @@ impl Listing {
             held = more;
             used = taken.at;
             if used < input.len() {
-                at = put_held(out, at, line, more);
-                line = std::num::wrapping_add_u64(line, 1);
+                at = put_held(out, at, known, more);
+                known = Known {
+                    line: std::num::wrapping_add_u64(known.line, 1),
+                };
                 let bytes = more.bytes;
                 held = Held { bytes, len: 0 };
                 used += 1;
             }
         }
         Fed {
-            listing: Listing { line, held },
+            listing: Listing { known, held },
             used,
             written: at,
         }
@@ -101,9 +108,10 @@ impl Listing {
         ensures { λ r. ⌜ r ≤ 106 ⌝ }
     {
         let held = self.held;
+        let known = self.known;
         if held.len == 0 {
             return 0;
         }
-        put_held(out, 0, self.line, held)
+        put_held(out, 0, known, held)
     }
 }

@@ -1,23 +1,25 @@
-// Replays a recording: lines of side information come from standard input or from the file that is
-// named, and a table of what the decoder does on them goes to standard output. The listing itself is
+// Replays recordings: lines of side information come from the files that are named, or from standard
+// input, and a table of what the decoder does on each goes to standard output. The listing itself is
 // the library's; this program moves bytes.
 mod progress;
 
 use crate::progress::Progress;
-use libc::STDERR_FILENO;
 use libc::STDIN_FILENO;
+use outcome::write_out;
 use replay_listing::machine::Listing;
 use replay_listing::machine::begin;
 use replay_stream::end;
 use replay_stream::pump;
 use replay_stream::write_header;
 
-// The replay after a read, whether there may be more, and whether something failed.
+// The replay after a read, whether there may be more, and whether the input could not be read or
+// standard output took no more.
 struct Read {
     listing: Listing,
     progress: Progress,
     more: bool,
-    failed: bool,
+    is_unread: bool,
+    is_unwritten: bool,
 }
 
 // Reads once, and replays what came. `name` is what the input is called where it cannot be read.
@@ -31,27 +33,21 @@ fn replay_some(from: Listing, progress: Progress, fd: i32, name: &[u8]) -> Read 
             listing: from,
             progress,
             more: false,
-            failed: true,
+            is_unread: true,
+            is_unwritten: false,
         };
     }
     let n = io::count(got, &input);
-    if n == 0 {
-        return Read {
-            listing: from,
-            progress,
-            more: false,
-            failed: false,
-        };
-    }
     let out_of_the_way = progress::make_way(progress);
     let pumped = pump(from, &input[..n], &mut out);
     let listing = pumped.listing;
-    let failed = pumped.failed;
+    let is_unwritten = pumped.failed;
     Read {
         listing,
         progress: progress::show(out_of_the_way, n),
-        more: !failed,
-        failed,
+        more: n > 0 && !is_unwritten,
+        is_unread: false,
+        is_unwritten,
     }
 }
 
@@ -62,7 +58,8 @@ fn replay_all(from: Listing, fd: i32, name: &[u8]) -> Read {
         listing: from,
         progress: progress::begin(fd),
         more: true,
-        failed: false,
+        is_unread: false,
+        is_unwritten: false,
     };
     let mut turns = u64::MAX;
     while turns > 0 && read.more {
@@ -74,45 +71,55 @@ fn replay_all(from: Listing, fd: i32, name: &[u8]) -> Read {
     read
 }
 
-// The whole replay of what a descriptor gives.
-fn replay(fd: i32, name: &[u8]) {
+// The whole replay of what a descriptor gives. Answers whether standard output took it.
+fn replay(fd: i32, name: &[u8]) -> bool {
     if !write_header() {
-        return;
+        return false;
     }
     let done = replay_all(begin(), fd, name);
     let listing = done.listing;
     let progress = done.progress;
     progress::clear(progress);
-    if !done.failed {
-        end(listing);
+    if done.is_unread {
+        return true;
     }
+    if done.is_unwritten {
+        return false;
+    }
+    end(listing)
 }
 
-fn replay_file(path: &[u8]) {
-    let fd = os::open_read(path);
-    if fd < 0 {
-        outcome::fail(path);
-        return;
+// The replay of what an argument names: a file, or standard input for a dash.
+fn replay_named(name: &[u8]) -> bool {
+    if check::same(name, b"--help") {
+        return write_out(
+            b"usage: replay [FILE]..\nreplays lines of frame number, pitch index or a dash, active 0 or 1, nbits, parted by tabs, or of frame number\nand the word lost; from standard input for a dash, and where no file is named.\n",
+        );
     }
-    replay(fd, path);
+    if check::same(name, b"-") {
+        return replay(STDIN_FILENO, b"standard input");
+    }
+    let fd = os::open_read(name);
+    if fd < 0 {
+        outcome::fail(name);
+        return true;
+    }
+    let is_written = replay(fd, name);
     libc::close(fd);
+    is_written
 }
 
 fn main() {
     let n = os::arg_count();
-    if n > 2 {
-        io::write_all(
-            STDERR_FILENO,
-            b"usage: replay [FILE]\nreads lines of frame number, pitch index or a dash, active 0 or 1, nbits, parted by tabs,\nor of frame number and the word lost; from standard input where no file is named.\n",
-        );
-        outcome::failed();
-        return;
-    }
     if n < 2 {
         replay(STDIN_FILENO, b"standard input");
         return;
     }
-    let mut path = io::buffer();
-    let length = os::arg(1, &mut path);
-    replay_file(&path[..length]);
+    let mut name = io::buffer();
+    for i in 1..n {
+        let length = os::arg(i, &mut name);
+        if !replay_named(&name[..length]) {
+            return;
+        }
+    }
 }

@@ -1,3 +1,2 @@
--- The laws of the replay's listing: a cell, and the listing in calls.
-pub mod Cells
+-- The laws of the replay's listing in calls.
 pub mod WholeInput

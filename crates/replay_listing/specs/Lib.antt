@@ -1,4 +1,3 @@
--- The listing of a replay: a row's text, the rules without samples and coefficients, and the machine.
-pub mod Rows
+-- The listing of a replay: the rules without samples and coefficients, and the machine.
 pub mod Bare
 pub mod Machine

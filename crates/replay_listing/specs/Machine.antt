@@ -2,11 +2,11 @@
 use Prim.Native.Nat.{ℕ}
 use mathlib.Core.List.{List}
 use Rattle.lines.specs.Machine as machine
-use Rattle.replay_listing.specs.Bare.{first, bareRules}
+use Rattle.replay_listing.specs.Bare.{bareRules}
 use Rattle.replay_listing.specs.declared.machine.Listing.{Listing}
 
 abbrev pub begun : Listing
-begun = record { replay = first; held = machine.nothingHeld }
+begun = record { replay = bareRules .first; held = machine.nothingHeld }
 
 -- the listing after some bytes, and the text that they make
 abbrev pub after : Listing → List ℕ → Listing

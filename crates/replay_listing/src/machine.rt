@@ -1,12 +1,12 @@
 // The replay in calls, in constant memory: it takes the recording in pieces of any size, line by line, and writes the
 // rows into whatever space it is lent.
-use crate::row::put_row;
+use cells::cell::put_text;
 use control::registers::Registers;
 use control::registers::clear;
-use lines::cell::put_text;
 use lines::held::Held;
 use lines::held::count;
 use lines::held::take_line;
+use replay_rows::row::put_row;
 use replaying::frame::Row;
 use replaying::step::Last;
 use replaying::step::step;
@@ -14,9 +14,8 @@ ghost use mathlib.Core.Path.{_≡_};
 ghost use Prim.Native.Nat.{_≤_};
 ghost use lib.ListN.{length, take};
 ghost use Rattle.lines.specs.Machine.{heldLine};
-ghost use Rattle.lines.specs.Texts.{Written};
-ghost use Rattle.replay_listing.specs.Rows.{header};
-ghost use Rattle.replay_listing.specs.Bare.{replayedLine};
+ghost use Rattle.cells.specs.Texts.{Written};
+ghost use Rattle.replay_listing.specs.Bare.{header, replayedLine};
 ghost use Rattle.replay_listing.specs.Machine.{begun, after, text, taken, lastText};
 
 // What is known between two lines: the number of the next one, the last frame that counted, and what the decoder

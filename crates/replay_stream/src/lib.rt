@@ -62,9 +62,10 @@ pub fn pump(from: Listing, input: &[u8], out: &mut [u8]) -> Pumped
     }
 }
 
-// Writes what is left at the end of the input.
-pub fn end(listing: Listing) {
+// Writes what is left at the end of the input, and answers whether standard output took it. Why it did
+// not is said.
+pub fn end(listing: Listing) -> bool {
     let mut text = [0u8; 256];
     let n = listing.finish(&mut text);
-    write_out(&text[..n]);
+    write_out(&text[..n])
 }

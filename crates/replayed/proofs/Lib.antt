@@ -5,3 +5,4 @@ pub mod WholeInput
 pub mod Refusals
 pub mod SettledColumn
 pub mod RoundingColumn
+pub mod CaseColumn

@@ -6,27 +6,27 @@ use mathlib.Core.List.{List, [], _∷_, _++_}
 use Rattle.rates.specs.declared.answer.Answer.the-variants.{WrongFrameNumber}
 use Rattle.control.specs.declared.registers.Registers.{Registers}
 use Rattle.settling.specs.Calls.{FitState}
-use Rattle.lines.specs.Listings.{rowsFrom}
+use Rattle.lines.specs.Listings.{afterLines, rowsFrom}
 use Rattle.entries.specs.Lines.{lineRead}
 use Rattle.entries.specs.declared.line.Line.{Line}
 use Rattle.replaying.specs.Frames.{dashedRow, replayedContent}
 use Rattle.replaying.specs.Steps.{follows, skipped, counted, steppedEntry, steppedLine}
 use Rattle.replaying.specs.declared.frame.Row.{Row}
-use Rattle.replay_listing.specs.Rows.{rowText}
+use Rattle.replay_rows.specs.Rows.{rowText}
 use Rattle.replay_listing.specs.declared.machine.Replay.{Replay}
-use Rattle.replay_listing.specs.Bare.{replayedAs, replayedLine, bareRules}
-use Rattle.replayed.specs.Whole.{Set, Lendable, Between, skippedLine, calledRow, countedLine, movedBy, rowOf, replayRules}
-use Rattle.replayed.specs.Made.{bare, bareOf, afterLines}
-use Rattle.replayed.proofs.OneCall.{config, SameCall, same-call}
+use Rattle.replay_listing.specs.Bare.{replayedAs, replayedLine}
+use Rattle.replayed.specs.Whole.{Setting, Usable, Between, skippedLine, calledRow, countedLine, movedBy, rowOf, replayRules}
+use Rattle.replayed.specs.Made.{bare, bareOf, bareRulesOf}
+use Rattle.replayed.proofs.OneCall.{SameCall, same-call}
 
-module _ (set : Set) (lendable : Lendable set) where
+module _ (setting : Setting) (usable : Usable setting) where
   -- a line, by what it says
   pub record SameLine (s : Between) (l : Line) : Type 0 where
-    pub row : steppedLine (s .last) (bare (s .decoder .registers)) l .row ≡ rowOf set s l
-    pub kept : replayedAs (s .line) (steppedLine (s .last) (bare (s .decoder .registers)) l) .replay ≡ bareOf (movedBy set s l)
-    pub stays-fit : FitState config (movedBy set s l .decoder)
+    pub row : steppedLine (s .last) (bare (s .decoder .registers)) l .row ≡ rowOf setting s l
+    pub kept : replayedAs (s .line) (steppedLine (s .last) (bare (s .decoder .registers)) l) .replay ≡ bareOf (movedBy setting s l)
+    pub stays-fit : FitState (setting .config) (movedBy setting s l .decoder)
 
-  pub same-line : (s : Between) → FitState config (s .decoder) → (l : Line) → SameLine s l
+  pub same-line : (s : Between) → FitState (setting .config) (s .decoder) → (l : Line) → SameLine s l
   unfolding steppedEntry
   same-line s fit Line.Malformed = record { row = refl; kept = refl; stays-fit = fit }
   same-line s fit (Line.Entry e) = let b = follows (s .last) (e .frame) in record { row = row b; kept = kept b; stays-fit = stays-fit b }
@@ -34,45 +34,45 @@ module _ (set : Set) (lendable : Lendable set) where
       r : Registers
       r = bare (s .decoder .registers)
 
-      called : SameCall set lendable (s .decoder) fit (e .content)
-      called = same-call set lendable (s .decoder) fit (e .content)
+      called : SameCall setting usable (s .decoder) fit (e .content)
+      called = same-call setting usable (s .decoder) fit (e .content)
 
       row : (b : Bool) →
           cond b (counted (e .frame) (replayedContent r (e .content))) (skipped (s .last) r WrongFrameNumber) .row ≡
-          cond b (calledRow set (s .decoder) (e .content)) (dashedRow WrongFrameNumber)
+          cond b (calledRow setting (s .decoder) (e .content)) (dashedRow WrongFrameNumber)
       row true = sym (called .row)
       row false = refl
 
       kept : (b : Bool) →
           replayedAs (s .line) (cond b (counted (e .frame) (replayedContent r (e .content))) (skipped (s .last) r WrongFrameNumber)) .replay ≡
-          bareOf (cond b (countedLine set s (e .frame) (e .content)) (skippedLine s))
+          bareOf (cond b (countedLine setting s (e .frame) (e .content)) (skippedLine s))
       kept true = rw (← called .registers)
       kept false = refl
 
-      stays-fit : (b : Bool) → FitState config (cond b (countedLine set s (e .frame) (e .content)) (skippedLine s) .decoder)
+      stays-fit : (b : Bool) → FitState (setting .config) (cond b (countedLine setting s (e .frame) (e .content)) (skippedLine s) .decoder)
       stays-fit true = called .stays-fit
       stays-fit false = fit
 
   -- any number of lines
-  pub same-rows : (s : Between) → FitState config (s .decoder) → (ls : List (List ℕ)) → rowsFrom bareRules (bareOf s) ls ≡ rowsFrom (replayRules set) s ls
+  pub same-rows : (s : Between) → FitState (setting .config) (s .decoder) → (ls : List (List ℕ)) → rowsFrom (bareRulesOf setting) (bareOf s) ls ≡ rowsFrom (replayRules setting) s ls
   unfolding rowsFrom replayedLine
   same-rows s fit [] = refl
   same-rows s fit (line ∷ rest) =
       let same = same-line s fit (lineRead line) in
-      let next = movedBy set s (lineRead line) in
-      let shown = rowText (s .line) (rowOf set s (lineRead line)) in
-      ap (λ (x : Row). rowText (s .line) x ++ rowsFrom bareRules (replayedLine (bareOf s) line .replay) rest) (same .row) ∙
-      ap (λ (p : Replay). shown ++ rowsFrom bareRules p rest) (same .kept) ∙ ap (λ (t : List ℕ). shown ++ t) (same-rows next (same .stays-fit) rest)
+      let next = movedBy setting s (lineRead line) in
+      let shown = rowText (s .line) (rowOf setting s (lineRead line)) in
+      ap (λ (x : Row). rowText (s .line) x ++ rowsFrom (bareRulesOf setting) (replayedLine (bareOf s) line .replay) rest) (same .row) ∙
+      ap (λ (p : Replay). shown ++ rowsFrom (bareRulesOf setting) p rest) (same .kept) ∙ ap (λ (t : List ℕ). shown ++ t) (same-rows next (same .stays-fit) rest)
 
-  pub same-states : (s : Between) → FitState config (s .decoder) → (ls : List (List ℕ)) →
-      afterLines bareRules (bareOf s) ls ≡ bareOf (afterLines (replayRules set) s ls)
+  pub same-states : (s : Between) → FitState (setting .config) (s .decoder) → (ls : List (List ℕ)) →
+      afterLines (bareRulesOf setting) (bareOf s) ls ≡ bareOf (afterLines (replayRules setting) s ls)
   unfolding afterLines replayedLine
   same-states s fit [] = refl
   same-states s fit (line ∷ rest) =
       let same = same-line s fit (lineRead line) in
-      ap (λ (p : Replay). afterLines bareRules p rest) (same .kept) ∙ same-states (movedBy set s (lineRead line)) (same .stays-fit) rest
+      ap (λ (p : Replay). afterLines (bareRulesOf setting) p rest) (same .kept) ∙ same-states (movedBy setting s (lineRead line)) (same .stays-fit) rest
 
-  pub lines-fit : (s : Between) → FitState config (s .decoder) → (ls : List (List ℕ)) → FitState config (afterLines (replayRules set) s ls .decoder)
+  pub lines-fit : (s : Between) → FitState (setting .config) (s .decoder) → (ls : List (List ℕ)) → FitState (setting .config) (afterLines (replayRules setting) s ls .decoder)
   unfolding afterLines
   lines-fit s fit [] = fit
-  lines-fit s fit (line ∷ rest) = lines-fit (movedBy set s (lineRead line)) (same-line s fit (lineRead line) .stays-fit) rest
+  lines-fit s fit (line ∷ rest) = lines-fit (movedBy setting s (lineRead line)) (same-line s fit (lineRead line) .stays-fit) rest

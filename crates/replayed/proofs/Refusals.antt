@@ -30,77 +30,77 @@ use Rattle.entries.proofs.FrameNumbers.{frame-below}
 use Rattle.replaying.specs.Frames.{dashedRow}
 use Rattle.replaying.specs.Steps.{follows}
 use Rattle.replaying.specs.declared.step.Last.{Last}
-use Rattle.replayed.specs.Whole.{Set, Lendable, Between, skippedLine, given, callOf, calledRow, countedLine, movedBy, rowOf}
-use Rattle.replayed.proofs.OneCall.{config, same-verdict, bare-verdict}
+use Rattle.replayed.specs.Whole.{Setting, Usable, Between, skippedLine, given, callOf, calledRow, countedLine, movedBy, rowOf}
+use Rattle.replayed.proofs.OneCall.{same-verdict, bare-verdict}
 
 abbrev pub among : ℕ → Bool
 among n = eqb n 0 || eqb n 6 || eqb n 7 || eqb n 10 || eqb n 11
 
-module _ (set : Set) (lendable : Lendable set) (d : Decoder) (fit : FitState config d) where
+module _ (setting : Setting) (usable : Usable setting) (d : Decoder) (fit : FitState (setting .config) d) where
   -- the call of a line that counts is answered 0, 6 or 7
-  called-among : (content : Content) → among (numberOf (reply d (callOf set content) .answer)) ≡ true
+  called-among : (content : Content) → among (numberOf (reply d (callOf setting content) .answer)) ≡ true
   unfolding framed judgedSide
-  called-among Content.Lost = rw (lost-done config d fit)
+  called-among Content.Lost = rw (lost-done (setting .config) d fit)
   called-among (Content.Frame side) =
-      ap (λ (v : Verdict). among (numberOf (framedWith d (set .numerators) (set .denominators) (given set side .samples) v .0 .answer)))
-      (same-verdict set lendable d fit side ∙ bare-verdict set lendable d fit side) ∙
-      go (leb (side .nbits) 3200) (lagFor (config .fs) (side .pitch))
+      ap (λ (v : Verdict). among (numberOf (framedWith d (setting .numerators) (setting .denominators) (given setting side .samples) v .0 .answer)))
+      (same-verdict setting usable d fit side ∙ bare-verdict setting usable d fit side) ∙
+      go (leb (side .nbits) 3200) (lagFor (setting .config .fs) (side .pitch))
     where
       go : (b : Bool) (l : FoundLag) →
-          let v = unless b TooManyBits (lagJudged (d .registers) config side l) in
-          among (numberOf (framedWith d (set .numerators) (set .denominators) (given set side .samples) v .0 .answer)) ≡ true
+          let v = unless b TooManyBits (lagJudged (d .registers) (setting .config) side l) in
+          among (numberOf (framedWith d (setting .numerators) (setting .denominators) (given setting side .samples) v .0 .answer)) ≡ true
       go false l = refl
       go true FoundLag.IndexTooLarge = refl
       go true (FoundLag.Lag lag) = refl
 
   -- and changes nothing where it is not answered 0
-  called-refused : (content : Content) → 1 ≤ numberOf (reply d (callOf set content) .answer) → after d (callOf set content) ≡ d
+  called-refused : (content : Content) → 1 ≤ numberOf (reply d (callOf setting content) .answer) → after d (callOf setting content) ≡ d
   unfolding framed
-  called-refused Content.Lost some = absurd (omega (arith, ap (λ r. numberOf (r .answer)) (lost-done config d fit)))
+  called-refused Content.Lost some = absurd (omega (arith, ap (λ r. numberOf (r .answer)) (lost-done (setting .config) d fit)))
   called-refused (Content.Frame side) some =
-      go (judged (d .registers) (fitDecoder d) (set .numerators) (set .denominators) side (given set side .samples)) some
+      go (judged (d .registers) (fitDecoder d) (setting .numerators) (setting .denominators) side (given setting side .samples)) some
     where
-      go : (v : Verdict) → 1 ≤ numberOf (framedWith d (set .numerators) (set .denominators) (given set side .samples) v .0 .answer) →
-          framedWith d (set .numerators) (set .denominators) (given set side .samples) v .0 .decoder ≡ d
+      go : (v : Verdict) → 1 ≤ numberOf (framedWith d (setting .numerators) (setting .denominators) (given setting side .samples) v .0 .answer) →
+          framedWith d (setting .numerators) (setting .denominators) (given setting side .samples) v .0 .decoder ≡ d
       go (Verdict.Refused answer) h = refl
       go (Verdict.Accepted plan) h = absurd (omega arith)
 
-module _ (set : Set) (lendable : Lendable set) (s : Between) (fit : FitState config (s .decoder)) where
-  pub only-these : (l : Line) → among (numberOf (rowOf set s l .answer)) ≡ true
+module _ (setting : Setting) (usable : Usable setting) (s : Between) (fit : FitState (setting .config) (s .decoder)) where
+  pub only-these : (l : Line) → among (numberOf (rowOf setting s l .answer)) ≡ true
   only-these Line.Malformed = refl
   only-these (Line.Entry e) = go (follows (s .last) (e .frame))
     where
-      go : (b : Bool) → among (numberOf (cond b (calledRow set (s .decoder) (e .content)) (dashedRow WrongFrameNumber) .answer)) ≡ true
-      go true = called-among set lendable (s .decoder) fit (e .content)
+      go : (b : Bool) → among (numberOf (cond b (calledRow setting (s .decoder) (e .content)) (dashedRow WrongFrameNumber) .answer)) ≡ true
+      go true = called-among setting usable (s .decoder) fit (e .content)
       go false = refl
 
-  pub refused-changes-nothing : (l : Line) → 1 ≤ numberOf (rowOf set s l .answer) → movedBy set s l .decoder ≡ s .decoder
+  pub refused-changes-nothing : (l : Line) → 1 ≤ numberOf (rowOf setting s l .answer) → movedBy setting s l .decoder ≡ s .decoder
   refused-changes-nothing Line.Malformed h = refl
   refused-changes-nothing (Line.Entry e) h = go (follows (s .last) (e .frame)) h
     where
-      go : (b : Bool) → 1 ≤ numberOf (cond b (calledRow set (s .decoder) (e .content)) (dashedRow WrongFrameNumber) .answer) →
-          cond b (countedLine set s (e .frame) (e .content)) (skippedLine s) .decoder ≡ s .decoder
-      go true k = called-refused set lendable (s .decoder) fit (e .content) k
+      go : (b : Bool) → 1 ≤ numberOf (cond b (calledRow setting (s .decoder) (e .content)) (dashedRow WrongFrameNumber) .answer) →
+          cond b (countedLine setting s (e .frame) (e .content)) (skippedLine s) .decoder ≡ s .decoder
+      go true k = called-refused setting usable (s .decoder) fit (e .content) k
       go false k = refl
 
-  pub skipped-changes-nothing : (l : Line) → 10 ≤ numberOf (rowOf set s l .answer) → movedBy set s l ≡ skippedLine s
+  pub skipped-changes-nothing : (l : Line) → 10 ≤ numberOf (rowOf setting s l .answer) → movedBy setting s l ≡ skippedLine s
   skipped-changes-nothing Line.Malformed h = refl
   skipped-changes-nothing (Line.Entry e) h = go (follows (s .last) (e .frame)) h
     where
-      go : (b : Bool) → 10 ≤ numberOf (cond b (calledRow set (s .decoder) (e .content)) (dashedRow WrongFrameNumber) .answer) →
-          cond b (countedLine set s (e .frame) (e .content)) (skippedLine s) ≡ skippedLine s
-      go true k = absurd (omega (arith, answer-small config (s .decoder) fit (callOf set (e .content))))
+      go : (b : Bool) → 10 ≤ numberOf (cond b (calledRow setting (s .decoder) (e .content)) (dashedRow WrongFrameNumber) .answer) →
+          cond b (countedLine setting s (e .frame) (e .content)) (skippedLine s) ≡ skippedLine s
+      go true k = absurd (omega (arith, answer-small (setting .config) (s .decoder) fit (callOf setting (e .content))))
       go false k = refl
 
-  pub others-count : (e : Entry) → numberOf (rowOf set s (Line.Entry e) .answer) ≤ 9 → movedBy set s (Line.Entry e) .last ≡ Last.Frame (e .frame)
+  pub others-count : (e : Entry) → numberOf (rowOf setting s (Line.Entry e) .answer) ≤ 9 → movedBy setting s (Line.Entry e) .last ≡ Last.Frame (e .frame)
   others-count e h = go (follows (s .last) (e .frame)) h
     where
-      go : (b : Bool) → numberOf (cond b (calledRow set (s .decoder) (e .content)) (dashedRow WrongFrameNumber) .answer) ≤ 9 →
-          cond b (countedLine set s (e .frame) (e .content)) (skippedLine s) .last ≡ Last.Frame (e .frame)
+      go : (b : Bool) → numberOf (cond b (calledRow setting (s .decoder) (e .content)) (dashedRow WrongFrameNumber) .answer) ≤ 9 →
+          cond b (countedLine setting s (e .frame) (e .content)) (skippedLine s) .last ≡ Last.Frame (e .frame)
       go true k = refl
       go false k = absurd (omega arith)
 
   -- after frame 999999999 there is no number that follows
   pub numbers-end : s .last ≡ Last.Frame 999999999 → (line : List ℕ) (e : Entry) → lineRead line ≡ Line.Entry e →
-      rowOf set s (lineRead line) .answer ≡ WrongFrameNumber
+      rowOf setting s (lineRead line) .answer ≡ WrongFrameNumber
   numbers-end last line e h = rw (h, last, ne-eqb (e .frame) 1000000000 (λ q. omega (arith, frame-below line e h)))

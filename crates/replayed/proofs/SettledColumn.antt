@@ -14,6 +14,7 @@ use Rattle.decoder.specs.declared.state.Decoder.{Decoder}
 use Rattle.settling.specs.Calls.{Call, after, reply, fromStart, eventsFrom, settledBy, FitState}
 use Rattle.settling.proofs.Held.{limit-found}
 use Rattle.settling.proofs.SettledExactly.{settled-exactly}
+use Rattle.lines.specs.Listings.{afterLines}
 use Rattle.entries.specs.Lines.{lineRead}
 use Rattle.entries.specs.declared.line.Content.{Content}
 use Rattle.entries.specs.declared.line.Line.{Line}
@@ -21,89 +22,88 @@ use Rattle.replaying.specs.Frames.{dashedRow}
 use Rattle.replaying.specs.Steps.{follows}
 use Rattle.replaying.specs.declared.frame.Columns.{Columns}
 use Rattle.replaying.specs.declared.frame.Shown.{Shown}
-use Rattle.replayed.specs.Whole.{Set, Lendable, Between, first, shownBy, given, callOf, shownOf, calledRow, countedLine, skippedLine, movedBy, rowOf, replayRules}
-use Rattle.replayed.specs.Made.{afterLines, madeBy, callsOf}
-use Rattle.replayed.proofs.OneCall.{config, first-fit, same-call}
+use Rattle.replayed.specs.Whole.{Setting, Usable, Between, first, shownBy, given, callOf, shownOf, calledRow, countedLine, skippedLine, movedBy, rowOf, replayRules}
+use Rattle.replayed.specs.Made.{madeBy, callsOf}
+use Rattle.replayed.proofs.OneCall.{first-fit, same-call}
 use Rattle.replayed.proofs.OneLine.{lines-fit}
 
-abbrev started : List Call → Decoder
-started calls = fromStart 48000 10000 calls
+module _ (setting : Setting) where
+  abbrev started : List Call → Decoder
+  started calls = fromStart (setting .rate) (setting .duration) calls
 
-module _ (set : Set) where
   -- one line
   line-by-calls : (s : Between) (calls : List Call) → s .decoder ≡ started calls → (l : Line) →
-      movedBy set s l .decoder ≡ started (madeBy set (s .last) l calls)
+      movedBy setting s l .decoder ≡ started (madeBy setting (s .last) l calls)
   line-by-calls s calls e Line.Malformed = e
   line-by-calls s calls e (Line.Entry x) = go (follows (s .last) (x .frame))
     where
-      go : (b : Bool) → cond b (countedLine set s (x .frame) (x .content)) (skippedLine s) .decoder ≡ started (cond b (callOf set (x .content) ∷ calls) calls)
-      go true = ap (λ (d : Decoder). after d (callOf set (x .content))) e
+      go : (b : Bool) → cond b (countedLine setting s (x .frame) (x .content)) (skippedLine s) .decoder ≡ started (cond b (callOf setting (x .content) ∷ calls) calls)
+      go true = ap (λ (d : Decoder). after d (callOf setting (x .content))) e
       go false = e
 
   lines-by-calls : (s : Between) (calls : List Call) → s .decoder ≡ started calls → (ls : List (List ℕ)) →
-      afterLines (replayRules set) s ls .decoder ≡ started (callsOf set s ls calls)
+      afterLines (replayRules setting) s ls .decoder ≡ started (callsOf setting s ls calls)
   unfolding afterLines callsOf
   lines-by-calls s calls e [] = e
   lines-by-calls s calls e (line ∷ rest) =
-      lines-by-calls (movedBy set s (lineRead line)) (madeBy set (s .last) (lineRead line) calls) (line-by-calls s calls e (lineRead line)) rest
+      lines-by-calls (movedBy setting s (lineRead line)) (madeBy setting (s .last) (lineRead line) calls) (line-by-calls s calls e (lineRead line)) rest
 
-  pub by-calls : (ls : List (List ℕ)) → afterLines (replayRules set) first ls .decoder ≡ fromStart 48000 10000 (callsOf set first ls [])
-  by-calls ls = lines-by-calls first [] refl ls
+  pub by-calls : (ls : List (List ℕ)) → afterLines (replayRules setting) (first setting) ls .decoder ≡ fromStart (setting .rate) (setting .duration) (callsOf setting (first setting) ls [])
+  by-calls ls = lines-by-calls (first setting) [] refl ls
 
   -- a last line's call is the latest
   calls-append : (s : Between) (calls : List Call) (ls : List (List ℕ)) (line : List ℕ) →
-      callsOf set s (ls ++ (line ∷ [])) calls ≡ madeBy set (afterLines (replayRules set) s ls .last) (lineRead line) (callsOf set s ls calls)
+      callsOf setting s (ls ++ (line ∷ [])) calls ≡ madeBy setting (afterLines (replayRules setting) s ls .last) (lineRead line) (callsOf setting s ls calls)
   unfolding afterLines callsOf
   calls-append s calls [] line = refl
-  calls-append s calls (l ∷ ls) line = calls-append (movedBy set s (lineRead l)) (madeBy set (s .last) (lineRead l) calls) ls line
+  calls-append s calls (l ∷ ls) line = calls-append (movedBy setting s (lineRead l)) (madeBy setting (s .last) (lineRead l) calls) ls line
 
 -- what is shown
 abbrev shows : Shown → Bool
 shows Shown.Dashes = false
 shows (Shown.Columns c) = c .settled
 
-module _ (set : Set) (lendable : Lendable set) where
+module _ (setting : Setting) (usable : Usable setting) where
   -- a call shows the report that it gives, or none
-  shown-settled : (d : Decoder) (content : Content) (c : Columns) → shownOf set d content ≡ Shown.Columns c → c .settled ≡ reply d (callOf set content) .settled
+  shown-settled : (d : Decoder) (content : Content) (c : Columns) → shownOf setting d content ≡ Shown.Columns c → c .settled ≡ reply d (callOf setting content) .settled
   shown-settled d Content.Lost c e = let z : _≡_ {A = ℕ} 0 1 = cc in absurd (omega arith)
   shown-settled d (Content.Frame side) c e =
-      go (judged (d .registers) (fitDecoder d) (set .numerators) (set .denominators) side (given set side .samples)) e
+      go (judged (d .registers) (fitDecoder d) (setting .numerators) (setting .denominators) side (given setting side .samples)) e
     where
-      go : (v : Verdict) → shownBy v (side .pitch) (reply d (callOf set (Content.Frame side)) .settled) ≡ Shown.Columns c →
-          c .settled ≡ reply d (callOf set (Content.Frame side)) .settled
+      go : (v : Verdict) → shownBy v (side .pitch) (reply d (callOf setting (Content.Frame side)) .settled) ≡ Shown.Columns c →
+          c .settled ≡ reply d (callOf setting (Content.Frame side)) .settled
       go (Verdict.Refused answer) q = let z : _≡_ {A = ℕ} 0 1 = cc in absurd (omega arith)
       go (Verdict.Accepted plan) q = sym (ap shows q)
 
   -- the report, by the settled rule
-  reported : (calls : List Call) → FitState config (started calls) → (content : Content) →
-      reply (started calls) (callOf set content) .settled ≡ settledBy 3 (eventsFrom 48000 10000 (callOf set content ∷ calls))
-  unfolding settledLimit
+  reported : (calls : List Call) → FitState (setting .config) (started setting calls) → (content : Content) →
+      reply (started setting calls) (callOf setting content) .settled ≡ settledBy (settledLimit (setting .config .«n_ms»)) (eventsFrom (setting .rate) (setting .duration) (callOf setting content ∷ calls))
   reported calls fit content =
-      let limit = limit-found config (started (callOf set content ∷ calls)) (same-call set lendable (started calls) fit content .stays-fit) in
-      settled-exactly 48000 10000 (callOf set content) calls ∙ ap (λ (n : ℕ). settledBy n (eventsFrom 48000 10000 (callOf set content ∷ calls))) limit
+      let limit = limit-found (setting .config) (started setting (callOf setting content ∷ calls)) (same-call setting usable (started setting calls) fit content .stays-fit) in
+      settled-exactly (setting .rate) (setting .duration) (callOf setting content) calls ∙ ap (λ (n : ℕ). settledBy n (eventsFrom (setting .rate) (setting .duration) (callOf setting content ∷ calls))) limit
 
   pub settled-column : (ls : List (List ℕ)) (line : List ℕ) (c : Columns) →
-      rowOf set (afterLines (replayRules set) first ls) (lineRead line) .shown ≡ Shown.Columns c →
-      c .settled ≡ settledBy 3 (eventsFrom 48000 10000 (callsOf set first (ls ++ (line ∷ [])) []))
-  settled-column ls line c e = rw (calls-append set first [] ls line) (go (lineRead line) e)
+      rowOf setting (afterLines (replayRules setting) (first setting) ls) (lineRead line) .shown ≡ Shown.Columns c →
+      c .settled ≡ settledBy (settledLimit (setting .config .«n_ms»)) (eventsFrom (setting .rate) (setting .duration) (callsOf setting (first setting) (ls ++ (line ∷ [])) []))
+  settled-column ls line c e = rw (calls-append setting (first setting) [] ls line) (go (lineRead line) e)
     where
       s : Between
-      s = afterLines (replayRules set) first ls
+      s = afterLines (replayRules setting) (first setting) ls
 
       calls : List Call
-      calls = callsOf set first ls []
+      calls = callsOf setting (first setting) ls []
 
-      called : (content : Content) → shownOf set (s .decoder) content ≡ Shown.Columns c →
-          c .settled ≡ settledBy 3 (eventsFrom 48000 10000 (callOf set content ∷ calls))
+      called : (content : Content) → shownOf setting (s .decoder) content ≡ Shown.Columns c →
+          c .settled ≡ settledBy (settledLimit (setting .config .«n_ms»)) (eventsFrom (setting .rate) (setting .duration) (callOf setting content ∷ calls))
       called content q =
-          let fit = subst (FitState config) (by-calls set ls) (lines-fit set lendable first first-fit ls) in
-          shown-settled (s .decoder) content c q ∙ ap (λ (d : Decoder). reply d (callOf set content) .settled) (by-calls set ls) ∙ reported calls fit content
+          let fit = subst (FitState (setting .config)) (by-calls setting ls) (lines-fit setting usable (first setting) (first-fit setting usable) ls) in
+          shown-settled (s .decoder) content c q ∙ ap (λ (d : Decoder). reply d (callOf setting content) .settled) (by-calls setting ls) ∙ reported calls fit content
 
-      go : (l : Line) → rowOf set s l .shown ≡ Shown.Columns c → c .settled ≡ settledBy 3 (eventsFrom 48000 10000 (madeBy set (s .last) l calls))
+      go : (l : Line) → rowOf setting s l .shown ≡ Shown.Columns c → c .settled ≡ settledBy (settledLimit (setting .config .«n_ms»)) (eventsFrom (setting .rate) (setting .duration) (madeBy setting (s .last) l calls))
       go Line.Malformed q = let z : _≡_ {A = ℕ} 0 1 = cc in absurd (omega arith)
       go (Line.Entry x) q = pick (follows (s .last) (x .frame)) q
         where
-          pick : (b : Bool) → cond b (calledRow set (s .decoder) (x .content)) (dashedRow WrongFrameNumber) .shown ≡ Shown.Columns c →
-              c .settled ≡ settledBy 3 (eventsFrom 48000 10000 (cond b (callOf set (x .content) ∷ calls) calls))
+          pick : (b : Bool) → cond b (calledRow setting (s .decoder) (x .content)) (dashedRow WrongFrameNumber) .shown ≡ Shown.Columns c →
+              c .settled ≡ settledBy (settledLimit (setting .config .«n_ms»)) (eventsFrom (setting .rate) (setting .duration) (cond b (callOf setting (x .content) ∷ calls) calls))
           pick true p = called (x .content) p
           pick false p = let z : _≡_ {A = ℕ} 0 1 = cc in absurd (omega arith)

@@ -5,14 +5,17 @@ use mathlib.Core.List.{List, [], _∷_}
 use lib.ListN.{replicate}
 use Rattle.floats.specs.Single.{0·0}
 use Rattle.control.specs.declared.registers.Registers.{Registers}
+use Rattle.control.specs.declared.judge.Plan.{Plan}
 use Rattle.settling.specs.Calls.{Call}
 use Rattle.lines.specs.Listings.{Rules}
 use Rattle.entries.specs.Lines.{lineRead}
 use Rattle.entries.specs.declared.line.Line.{Line}
 use Rattle.replaying.specs.Steps.{follows}
+use Rattle.replaying.specs.declared.frame.Columns.{Columns}
 use Rattle.replaying.specs.declared.step.Last.{Last}
+use Rattle.replay_listing.specs.Bare.{bareRulesAt}
 use Rattle.replay_listing.specs.declared.machine.Replay.{Replay}
-use Rattle.replayed.specs.Whole.{Set, Between, callOf, movedBy}
+use Rattle.replayed.specs.Whole.{Setting, Between, callOf, movedBy}
 
 -- the registers with coefficients of 0.0 in place of those of a set
 abbrev pub bare : Registers → Registers
@@ -31,18 +34,22 @@ bare r = record {
 abbrev pub bareOf : Between → Replay
 bareOf s = record { line = s .line; last = s .last; registers = bare (s .decoder .registers) }
 
--- the state of a listing after some lines, in their order
-unfoldable pub afterLines : (L : Rules) → L .State → List (List ℕ) → L .State
-afterLines L s [] = s
-afterLines L s (line ∷ rest) = afterLines L (L .moved s line) rest
+-- its rules, at the setting's rate and duration
+abbrev pub bareRulesOf : Setting → Rules
+bareRulesOf setting = bareRulesAt (setting .rate) (setting .duration)
 
-module _ (set : Set) where
+-- the plan of a frame that its row shows
+abbrev pub shownPlan : Setting → Columns → Plan
+shownPlan setting c =
+    record { config = setting .config; active = c .active; lag = c .lag; gain = c .gain; transition = c .transition }
+
+module _ (setting : Setting) where
   -- a line that counts adds its call to those made before
   abbrev pub madeBy : Last → Line → List Call → List Call
   madeBy last Line.Malformed calls = calls
-  madeBy last (Line.Entry e) calls = cond (follows last (e .frame)) (callOf set (e .content) ∷ calls) calls
+  madeBy last (Line.Entry e) calls = cond (follows last (e .frame)) (callOf setting (e .content) ∷ calls) calls
 
   -- the calls of some lines, the latest first, after those that were made before
   unfoldable pub callsOf : Between → List (List ℕ) → List Call → List Call
   callsOf s [] calls = calls
-  callsOf s (line ∷ rest) calls = callsOf (movedBy set s (lineRead line)) rest (madeBy (s .last) (lineRead line) calls)
+  callsOf s (line ∷ rest) calls = callsOf (movedBy setting s (lineRead line)) rest (madeBy (s .last) (lineRead line) calls)

@@ -1,15 +1,20 @@
--- The replay of a recording, defined on the whole input as a list of bytes: each line that counts is a call of a fresh 48000 Hz, 10 ms decoder
--- with all samples zero, and its row is read off that call.
+-- The replay of a recording, defined on the whole input as a list of bytes: each line that counts is a call of a fresh decoder with all samples
+-- zero, and its row is read off that call.
 use Prim.Native.Nat.{ℕ}
 use mathlib.Core.Path.{_≡_}
-use mathlib.Core.Bool.{Bool, true, cond}
-use mathlib.Core.List.{List}
+use mathlib.Core.Bool.{Bool, true, false, cond}
+use mathlib.Core.List.{List, []}
 use lib.Ieee.{Float}
-use lib.ListN.{length, replicate}
+use lib.ListN.{replicate}
 use Rattle.floats.specs.Single.{0·0}
+use Rattle.rates.specs.Table.{row}
+use Rattle.rates.specs.Configs.{configOf}
 use Rattle.rates.specs.declared.answer.Answer.the-variants.{MalformedLine, WrongFrameNumber}
+use Rattle.rates.specs.declared.duration.FrameDuration.the-variants.{TenMs}
+use Rattle.rates.specs.declared.config.Lc3Config.{Lc3Config}
+use Rattle.rates.specs.declared.config.Configured.the-variants.{Config}
 use Rattle.lag.specs.declared.pitch.PitchRecord.{PitchRecord}
-use Rattle.control.specs.Judge.{setFinite, judged}
+use Rattle.control.specs.Judge.{setCounts, setFinite, judged}
 use Rattle.control.specs.declared.judge.SideInfo.{SideInfo}
 use Rattle.control.specs.declared.judge.Verdict.{Verdict}
 use Rattle.decoder.specs.State.{started, fitDecoder}
@@ -24,28 +29,39 @@ use Rattle.replaying.specs.Steps.{follows}
 use Rattle.replaying.specs.declared.frame.Shown.{Shown}
 use Rattle.replaying.specs.declared.frame.Row.{Row}
 use Rattle.replaying.specs.declared.step.Last.{Last}
-use Rattle.replay_listing.specs.Rows.{header, rowText}
+use Rattle.replay_rows.specs.Rows.{rowText}
+use Rattle.replay_listing.specs.Bare.{header}
 
--- a lent coefficient set
-pub record Set : Type 0 where
+-- what a replay is made with: a rate and a duration, the lengths that they fix, and a lent coefficient set
+pub record Setting : Type 0 where
+  pub rate : ℕ
+  pub duration : ℕ
+  pub config : Lc3Config
   pub numerators : List Float
   pub denominators : List Float
 
--- one that 48000 Hz takes: four rows of 11 and four of 13, each entry finite
-pub record Lendable (set : Set) : Type 0 where
-  pub nums : length (set .numerators) ≡ 44
-  pub dens : length (set .denominators) ≡ 52
-  pub finite : setFinite (set .numerators) (set .denominators) ≡ true
+-- one that a decoder takes: the table has the rate and the duration, the set has their lengths, and each entry is finite
+pub record Usable (setting : Setting) : Type 0 where
+  pub known : configOf (setting .rate) (setting .duration) ≡ Config (setting .config)
+  pub counts : setCounts (setting .config) (setting .numerators) (setting .denominators) ≡ true
+  pub finite : setFinite (setting .numerators) (setting .denominators) ≡ true
+
+-- the setting of the listing: 48000 Hz and 10 ms, with any set
+abbrev pub at48000 : List Float → List Float → Setting
+at48000 numerators denominators =
+    record {
+      rate = 48000;
+      duration = 10000;
+      config = record { fs = row 48000 4 6 480 360 4 12 120; «n_ms» = TenMs; nf = 480; history = 960 };
+      numerators = numerators;
+      denominators = denominators;
+    }
 
 -- between two lines: the number of the next one, the last frame that counted, and the decoder
 pub record Between : Type 0 where
   pub line : ℕ
   pub last : Last
   pub decoder : Decoder
-
--- before the first line: no frame has counted, and the decoder is fresh
-abbrev pub first : Between
-first = record { line = 1; last = Last.None; decoder = started 48000 10000 .decoder }
 
 -- what a verdict shows: dashes, or the plan, the settled report, and how the lag of the frame's pitch was rounded
 abbrev pub shownBy : Verdict → PitchRecord → Bool → Shown
@@ -56,11 +72,17 @@ shownBy (Verdict.Accepted plan) pitch settled = Shown.Columns (columnsOf plan pi
 abbrev pub skippedLine : Between → Between
 skippedLine s = record { line = nextNumber (s .line); last = s .last; decoder = s .decoder }
 
-module _ (set : Set) where
+module _ (setting : Setting) where
+  -- before the first line: no frame has counted, and the decoder is fresh
+  abbrev pub first : Between
+  first = record { line = 1; last = Last.None; decoder = started (setting .rate) (setting .duration) .decoder }
+
   -- a frame of zeros
+  abbrev pub zeros : List Float
+  zeros = replicate (setting .config .nf) 0·0
+
   abbrev pub given : SideInfo → Given
-  given side =
-      record { numerators = set .numerators; denominators = set .denominators; side = side; samples = replicate 480 0·0 }
+  given side = record { numerators = setting .numerators; denominators = setting .denominators; side = side; samples = zeros }
 
   -- the call of a line that counts: a loss mark, or a frame
   abbrev pub callOf : Content → Call
@@ -71,7 +93,7 @@ module _ (set : Set) where
   abbrev pub shownOf : Decoder → Content → Shown
   shownOf d Content.Lost = Shown.Dashes
   shownOf d (Content.Frame side) =
-      shownBy (judged (d .registers) (fitDecoder d) (set .numerators) (set .denominators) side (replicate 480 0·0)) (side .pitch)
+      shownBy (judged (d .registers) (fitDecoder d) (setting .numerators) (setting .denominators) side zeros) (side .pitch)
       (reply d (frame (given side)) .settled)
 
   abbrev pub calledRow : Decoder → Content → Row
@@ -98,6 +120,8 @@ module _ (set : Set) where
         first = first;
         moved = λ s line. movedBy s (lineRead line);
         row = λ s line. rowText (s .line) (rowOf s (lineRead line));
+        stops = λ s. false;
+        closing = λ s. [];
         space = 169;
       }
 

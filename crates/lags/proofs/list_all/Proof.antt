@@ -4,10 +4,10 @@ use Rattle.lags.proofs.list_all.Statement.{statement}
 use Rattle.lags.proofs.list_all.Tie as tie
 
 abbrev Inv-loop : tie.InvT-loop
-Inv-loop pumped₀ turns₀ pumped turns = Unit {0}
+Inv-loop fd name read₀ turns₀ read turns = Unit {0}
 
 abbrev μ-loop : tie.MeasureT-loop
-μ-loop pumped₀ turns₀ pumped turns = turns
+μ-loop fd name read₀ turns₀ read turns = turns
 
 pub list-all-spec : {M : Type 1} → statement M
 list-all-spec =

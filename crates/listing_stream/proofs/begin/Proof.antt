@@ -1,6 +1,5 @@
 -- `begin` writes the part of its buffer that holds the header.
 use native.Mathlib.Omega.{arith}
-use lib.ListN.{length}
 use lib.Seq.{length-sets}
 use borrow.Author.Needs.{needs}
 use Rattle.listing_stream.proofs.begin.Statement.{statement}

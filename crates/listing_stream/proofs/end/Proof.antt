@@ -1,9 +1,8 @@
 -- `end` writes the part of its buffer that holds the last row.
 use mathlib.Core.Path.{sym}
 use native.Mathlib.Omega.{arith}
-use lib.ListN.{length}
 use lib.Seq.{length-take-le}
-use Rattle.lines.proofs.Stores.{written-length}
+use Rattle.cells.proofs.Stores.{written-length}
 use borrow.Author.Needs.{needs}
 use Rattle.listing_stream.proofs.end.Statement.{statement}
 use Rattle.listing_stream.proofs.end.Tie as tie

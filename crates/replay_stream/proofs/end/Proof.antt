@@ -2,7 +2,7 @@
 use mathlib.Core.Path.{sym}
 use native.Mathlib.Omega.{arith}
 use lib.Seq.{length-take-le}
-use Rattle.lines.proofs.Stores.{written-length}
+use Rattle.cells.proofs.Stores.{written-length}
 use borrow.Author.Needs.{needs}
 use Rattle.replay_stream.proofs.end.Statement.{statement}
 use Rattle.replay_stream.proofs.end.Tie as tie

@@ -1,6 +1,6 @@
 -- `write_header` writes the part of its buffer that holds the header.
 use native.Mathlib.Omega.{arith}
-use Rattle.lines.proofs.Stores.{written-length}
+use Rattle.cells.proofs.Stores.{written-length}
 use borrow.Author.Needs.{needs}
 use Rattle.replay_stream.proofs.write_header.Statement.{statement}
 use Rattle.replay_stream.proofs.write_header.Tie as tie

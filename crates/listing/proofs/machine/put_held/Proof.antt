@@ -3,6 +3,7 @@ use mathlib.Core.Path.{_≡_, sym}
 use native.Mathlib.Omega.{arith}
 use lib.ListN.{length}
 use lib.Seq.{length-take-le}
+use Rattle.cells.proofs.Stores.{written}
 use Rattle.lines.proofs.HeldLines.{capped}
 use borrow.Author.Needs.{needs}
 use Rattle.listing.proofs.machine.put_held.Statement.{statement}
@@ -21,7 +22,7 @@ returns : tie.Need-returns
 returns c =
     let b = c .before .before .before .before .before .before in
     let same = capped (b .before .before .before .args .held .bytes) (b .before .before .before .args .held .len) (size b) in
-    (rw (← same, ← b .before .count .ensures, ← c .before .before .before .before .answer-line .ensures) (c .before .before .put-row .ensures .0), c .before .before .put-row .ensures .1)
+    (rw (← same, ← b .before .count .ensures, ← c .before .before .before .before .answer-line .ensures) (written (c .before .before .put-row .ensures .0) (omega arith)), c .before .before .put-row .ensures .1)
 
 pub put-held-spec : {M : Type 1} → statement M
 put-held-spec =

@@ -1,6 +1,6 @@
 -- `start` writes the header, which fits, and holds nothing.
 use native.Mathlib.Omega.{arith}
-use Rattle.lines.proofs.Stores.{written}
+use Rattle.cells.proofs.Stores.{written}
 use borrow.Author.Needs.{needs}
 use Rattle.listing.proofs.machine.start.Statement.{statement}
 use Rattle.listing.proofs.machine.start.Tie as tie

@@ -1,6 +1,6 @@
 -- `put_header` writes a text that fits.
 use native.Mathlib.Omega.{arith}
-use Rattle.lines.proofs.Stores.{written}
+use Rattle.cells.proofs.Stores.{written}
 use borrow.Author.Needs.{needs}
 use Rattle.replay_listing.proofs.machine.put_header.Statement.{statement}
 use Rattle.replay_listing.proofs.machine.put_header.Tie as tie

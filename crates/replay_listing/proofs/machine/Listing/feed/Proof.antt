@@ -1,10 +1,14 @@
 -- `feed` goes line by line, as `Going` says of any listing.
 use Prim.Native.Nat.{_-_, _≤_}
-use mathlib.Core.Path.{ap}
+use mathlib.Core.Path.{_≡_, refl, ap}
+use mathlib.Core.Bool.{false}
 use native.Mathlib.Omega.{arith}
 use borrow.Author.Tests.{leb-true, leb-false}
 use lib.ListN.{length}
+use Rattle.cells.proofs.Stores.{written}
+use Rattle.lines.specs.Machine.{full}
 use Rattle.lines.specs.declared.held.Taken.{Taken}
+use Rattle.lines.proofs.Cuts.{short, roomy}
 use Rattle.lines.proofs.Feeding.{Going, going-first, going-held, going-row, going-full, going-done}
 use Rattle.replay_listing.specs.Bare.{bareRules}
 use borrow.Author.Needs.{needs}
@@ -21,6 +25,9 @@ abbrev μ-loop : tie.MeasureT-loop
 space : (c : tie.Then1 Inv-loop μ-loop) → 169 ≤ length (c .before .before .loop .out) - c .before .before .loop .at
 space c = leb-true _ _ (c .if1 .taken)
 
+free : (c : tie.Then1 Inv-loop μ-loop) → full bareRules (c .before .before .loop .replay) (length (c .before .before .loop .out) - c .before .before .loop .at) ≡ false
+free c = roomy bareRules (c .before .before .loop .replay) _ (space c)
+
 onward : (c : tie.After-take-line Inv-loop μ-loop) → c .before .before .before .loop .used ≤ c .take-line .result .at
 onward c = omega (arith, ap (λ (t : Taken). t .at) (c .take-line .ensures))
 
@@ -29,9 +36,6 @@ loop-holds c = going-first _ _ _ _ _
 
 sub-if1 : tie.Need-sub-if1 Inv-loop μ-loop
 sub-if1 c = omega (arith, c .before .loop .inv .fits)
-
-put-row-requires : tie.Need-put-row-requires Inv-loop μ-loop
-put-row-requires c κs = omega (arith, space (c .before .before .before .before .before .before))
 
 add-used : tie.Need-add-used Inv-loop μ-loop
 add-used c = record { fits = omega (arith, c .before .before .before .before .before .before .before .before .before .before .before .before .before .before .before .before .before .before .good .1 .0 .0) }
@@ -45,18 +49,18 @@ loop-again c =
     let r = c .before .before .before .before .before .before .before in
     let p = c .before .before .before .before in
     rw (r .replay-held .ensures)
-    (going-row _ _ _ _ _ _ _ _ _ _ (t .before .before .before .loop .inv) _ _ _ (space (t .before)) (t .take-line .ensures)
-    (c .before .before .before .before .before .before .before .before .if2 .taken) (rw (r .replay-held .ensures) at (p .put-row .ensures .0)) (p .put-row .ensures .1))
+    (going-row _ _ _ _ _ _ _ _ _ _ (t .before .before .before .loop .inv) _ _ _ (free (t .before)) (t .take-line .ensures)
+    (c .before .before .before .before .before .before .before .before .if2 .taken) (rw (r .replay-held .ensures) at (written (p .put-row .ensures .0) (omega (arith, space (t .before))))) (omega (arith, p .put-row .ensures .1, space (t .before))))
 
 loop-again-2 : tie.Need-loop-again-2 Inv-loop μ-loop
 loop-again-2 c =
     let t = c .before .before in
-    going-held _ _ _ _ _ _ _ _ _ _ (t .before .before .before .loop .inv) _ (space (t .before)) (t .take-line .ensures)
+    going-held _ _ _ _ _ _ _ _ _ _ (t .before .before .before .loop .inv) _ (free (t .before)) (t .take-line .ensures)
 
 returns : tie.Need-returns Inv-loop μ-loop
 returns c =
     let g = c .before .before .loop .inv in
-    (going-full _ _ _ _ _ _ _ _ _ _ g (leb-false _ _ (c .if1 .left)), (cc, (g .wrote, (g .within, omega arith))))
+    (going-full _ _ _ _ _ _ _ _ _ _ g (short bareRules (c .before .before .loop .replay) (length (c .before .before .loop .out) - c .before .before .loop .at) refl (leb-false _ _ (c .if1 .left))), (cc, (g .wrote, (g .within, omega arith))))
 
 returns-2 : tie.Need-returns-2 Inv-loop μ-loop
 returns-2 c =
@@ -73,7 +77,7 @@ feed-spec =
     sub-if1
     (λ c κs. search needs)
     (λ c κs. search needs)
-    put-row-requires
+    (λ c κs. search needs)
     add-used
     loop-less
     loop-again

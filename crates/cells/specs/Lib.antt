@@ -1,0 +1,3 @@
+-- Numbers as text, and the cells of a row.
+pub mod Decimal
+pub mod Texts

@@ -1,0 +1,2 @@
+-- The rows of the listing of lags.
+pub mod Rows

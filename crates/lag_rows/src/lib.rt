@@ -1,0 +1,2 @@
+// The rows of the listing of lags: what a line asks, and the text that answers it.
+pub mod row;

@@ -1,0 +1,2 @@
+-- A law of the rows: a cell that fits.
+pub mod Cells

@@ -1,0 +1,2 @@
+// The rows of a replay as text.
+pub mod row;
