@@ -1,8 +1,8 @@
 -- `is_counted` compares the three lengths.
 use borrow.Author.Tests.{eq-eqb, ne-eqb}
-use Rattle.encoder.specs.Judge.{counted}
-use Rattle.encoder.proofs.judge.is_counted.Statement.{statement}
-use Rattle.encoder.proofs.judge.is_counted.Tie as tie
+use Rattle.encoder_refusals.specs.Refusals.{counted}
+use Rattle.encoder_refusals.proofs.is_counted.Statement.{statement}
+use Rattle.encoder_refusals.proofs.is_counted.Tie as tie
 
 returns : tie.Need-returns
 unfolding counted

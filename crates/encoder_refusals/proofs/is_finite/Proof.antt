@@ -1,9 +1,9 @@
 -- `is_finite` tests the three slices.
 use borrow.Author.Needs.{needs}
 use borrow.Author.Tests.{not-true, not-false}
-use Rattle.encoder.specs.Judge.{finiteSet}
-use Rattle.encoder.proofs.judge.is_finite.Statement.{statement}
-use Rattle.encoder.proofs.judge.is_finite.Tie as tie
+use Rattle.encoder_refusals.specs.Refusals.{finiteSet}
+use Rattle.encoder_refusals.proofs.is_finite.Statement.{statement}
+use Rattle.encoder_refusals.proofs.is_finite.Tie as tie
 
 returns : tie.Need-returns
 unfolding finiteSet
