@@ -27,8 +27,8 @@ returns-3 c =
       not-false (c .before .before .before .before .all-finite .result) (c .before .before .before .if1 .left),
       ← c .before .before .all-finite2 .ensures,
       not-false (c .before .before .all-finite2 .result) (c .before .if2 .left),
-      ← c .all-finite3 .ensures,
     )
+    (c .all-finite3 .ensures)
 
 pub is-finite-spec : {M : Type 1} → statement M
 is-finite-spec =

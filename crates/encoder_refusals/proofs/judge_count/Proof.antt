@@ -8,10 +8,10 @@ returns : tie.Need-returns
 returns c = rw (c .enum-told .given .1)
 
 returns-2 : tie.Need-returns-2
-returns-2 c = rw (c .before .before .before .judged .given .1, ne-eqb _ _ (c .if1 .taken))
+returns-2 c = rw (c .before .before .before .judged .given .1, ne-eqb (c .before .before .before .before .before .args .count) (c .before .before .before .judged .given .0 .0 .nf) (c .if1 .taken))
 
 returns-3 : tie.Need-returns-3
-returns-3 c = rw (c .before .before .before .judged .given .1, eq-eqb _ _ (c .if1 .left))
+returns-3 c = rw (c .before .before .before .judged .given .1, eq-eqb (c .before .before .before .before .before .args .count) (c .before .before .before .judged .given .0 .0 .nf) (c .if1 .left))
 
 pub judge-count-spec : {M : Type 1} → statement M
 judge-count-spec = tie.close (tie.spec (λ c. search needs) (λ c. search needs) returns returns-2 returns-3)
