@@ -23,7 +23,7 @@ use Rattle.rates.specs.declared.config.Configured.{Configured}
 use Rattle.rates.specs.declared.config.Configured.the-variants.{Config, Refused}
 use Rattle.rates.proofs.Rows.{bound-at}
 use Rattle.rates.proofs.Known.{both, known}
-use Rattle.signals.proofs.Steps.{step-bounds}
+use Rattle.resampling.proofs.Steps.{step-bounds}
 use Rattle.encoder_refusals.specs.Refusals.{fitBy, counted, finiteSet, judgedSet, judgedCount, judgedBits, judgedApart}
 use Rattle.encoder.specs.State.{fitConfig}
 use Rattle.encoder.specs.Judge.{judged}

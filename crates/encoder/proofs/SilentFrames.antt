@@ -18,7 +18,7 @@ use Rattle.rates.specs.declared.config.Lc3Config.{Lc3Config}
 use Rattle.rates.specs.declared.config.Configured.the-variants.{Config}
 use Rattle.rates.proofs.Rows.{at-row}
 use Rattle.lag.specs.declared.pitch.PitchRecord.the-variants.{Absent}
-use Rattle.signals.specs.Resample.{scale}
+use Rattle.resampling.specs.Resample.{scale}
 use Rattle.rates.specs.Lengths.{lengthsOf}
 use Rattle.encoder.specs.State.{clearedAt}
 use Rattle.encoder_refusals.specs.Refusals.{counted, finiteSet}

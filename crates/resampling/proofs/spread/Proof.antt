@@ -7,9 +7,9 @@ use borrow.Author.Needs.{needs}
 use lib.ListN.{length}
 use Rattle.floats.specs.Single.{at}
 use Rattle.slices.proofs.Written.{length-written}
-use Rattle.signals.proofs.Rows.{row-more}
-use Rattle.signals.proofs.resample.spread.Statement.{statement}
-use Rattle.signals.proofs.resample.spread.Tie as tie
+use Rattle.resampling.proofs.Rows.{row-more}
+use Rattle.resampling.proofs.spread.Statement.{statement}
+use Rattle.resampling.proofs.spread.Tie as tie
 
 abbrev Inv-loop : tie.InvT-loop
 Inv-loop x p rows₀ first s₀ s-end rows s =

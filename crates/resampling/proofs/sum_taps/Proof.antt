@@ -6,10 +6,10 @@ use native.Mathlib.Nat.{add-zero, div-le-of-le-mul, div-lt-iff-lt-mul, mod-lt, m
 use native.Mathlib.Omega.{arith}
 use borrow.Author.Needs.{needs}
 use lib.Ieee.{ofBits}
-use Rattle.signals.specs.Rows.{tapLanes}
-use Rattle.signals.proofs.Rows.{tap-used, tap-after, tap-before}
-use Rattle.signals.proofs.resample.sum_taps.Statement.{statement}
-use Rattle.signals.proofs.resample.sum_taps.Tie as tie
+use Rattle.resampling.specs.Rows.{tapLanes}
+use Rattle.resampling.proofs.Rows.{tap-used, tap-after, tap-before}
+use Rattle.resampling.proofs.sum_taps.Statement.{statement}
+use Rattle.resampling.proofs.sum_taps.Tie as tie
 
 abbrev Inv-loop : tie.InvT-loop
 Inv-loop rows p filter n first m low₀ high₀ j₀ j-end low high j = (j ≤ j-end) × (low ≡ tapLanes rows filter p n 0 j) × (high ≡ tapLanes rows filter p n 8 j)

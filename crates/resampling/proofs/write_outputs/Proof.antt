@@ -1,4 +1,4 @@
--- `resample` writes one output a turn, each where its sum was put.
+-- `write_outputs` writes one output a turn, each where its sum was put.
 use Prim.Native.Nat.{_-_, _≤_}
 use mathlib.Core.Path.{_≡_}
 use native.Mathlib.Nat.{div-add-mod', mod-lt}
@@ -6,10 +6,10 @@ use native.Mathlib.Numerals.{add-one}
 use native.Mathlib.Omega.{arith}
 use borrow.Author.Needs.{needs}
 use Rattle.slices.specs.Written.{written}
-use Rattle.signals.specs.Resample.{resampled}
-use Rattle.signals.proofs.Rows.{phase-at}
-use Rattle.signals.proofs.resample.resample.Statement.{statement}
-use Rattle.signals.proofs.resample.resample.Tie as tie
+use Rattle.resampling.specs.Resample.{resampled}
+use Rattle.resampling.proofs.Rows.{phase-at}
+use Rattle.resampling.proofs.write_outputs.Statement.{statement}
+use Rattle.resampling.proofs.write_outputs.Tie as tie
 
 abbrev Inv-loop : tie.InvT-loop
 Inv-loop x p filter out₀ len12p8 sums scale n₀ out n = (n ≤ len12p8) × (out ≡ written out₀ 276 (resampled x filter p) n)
@@ -41,8 +41,8 @@ loop-again c =
 returns : tie.Need-returns Inv-loop μ-loop
 returns c = let e : c .before .loop .n ≡ c .before .before .before .before .before .before .before .before .args .len12p8 = omega arith in cc
 
-pub resample-spec : {M : Type 1} → statement M
-resample-spec =
+pub write-outputs-spec : {M : Type 1} → statement M
+write-outputs-spec =
     tie.close
     (tie.spec
     Inv-loop

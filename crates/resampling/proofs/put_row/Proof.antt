@@ -7,8 +7,8 @@ use native.Mathlib.Omega.{arith}
 use borrow.Author.Needs.{needs}
 use Rattle.floats.specs.Single.{at}
 use Rattle.slices.specs.Written.{written}
-use Rattle.signals.proofs.resample.put_row.Statement.{statement}
-use Rattle.signals.proofs.resample.put_row.Tie as tie
+use Rattle.resampling.proofs.put_row.Statement.{statement}
+use Rattle.resampling.proofs.put_row.Tie as tie
 
 abbrev Inv-loop : tie.InvT-loop
 Inv-loop x from step rows₀ to b₀ rows b = (b ≤ 16) × (rows ≡ written rows₀ to (λ b. at x (from + step * b)) b)

@@ -2,8 +2,8 @@
 use lib.Ieee.{round, ofBits, ofInt}
 use borrow.Author.Needs.{needs}
 use borrow.Author.Tests.{eq-eqb, ne-eqb}
-use Rattle.signals.proofs.resample.scale_of.Statement.{statement}
-use Rattle.signals.proofs.resample.scale_of.Tie as tie
+use Rattle.resampling.proofs.scale_of.Statement.{statement}
+use Rattle.resampling.proofs.scale_of.Tie as tie
 
 returns : tie.Need-returns
 unfolding round ofBits ofInt

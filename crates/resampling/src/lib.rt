@@ -2,13 +2,16 @@
 // set are the same again, and the samples lie 120/p further on, so the sums of sixteen outputs that
 // lie eight apart are made side by side.
 use lanes::Lanes;
+use rates::duration::FrameDuration;
+use rates::lengths::lengths_of;
 ghost use mathlib.Core.Path.{_≡_};
 ghost use Prim.Native.Nat.{_+_, _*_, _/_, _≤_, _<_};
 ghost use lib.ListN.{length};
 ghost use Rattle.floats.specs.Single.{at};
 ghost use Rattle.slices.specs.Written.{written};
-ghost use Rattle.signals.specs.Resample.{scale, resampled};
-ghost use Rattle.signals.specs.Rows.{Spread, tapLanes, Phases};
+ghost use Rattle.rates.specs.Lengths.{lengthsOf};
+ghost use Rattle.resampling.specs.Resample.{scale, resampled, usable, resampledInto};
+ghost use Rattle.resampling.specs.Rows.{Spread, tapLanes, Phases};
 
 // The sums of outputs n, n + 8, .., n + 120.
 struct Sixteen {
@@ -86,13 +89,7 @@ fn scale_of(p: usize) -> f32
 }
 
 // Writes the frame's len12p8 samples at 12.8 kHz after the 276 of history in out.
-pub(crate) fn resample(
-    x: &[f32; 540],
-    p: usize,
-    filter: &[f32],
-    out: &mut [f32; 404],
-    len12p8: usize,
-)
+fn write_outputs(x: &[f32; 540], p: usize, filter: &[f32], out: &mut [f32; 404], len12p8: usize)
     requires { ⌜ (4 ≤ p) × (p ≤ 24) × (p * (120 / p) ≡ 120) ⌝ }
     requires { ⌜ len12p8 ≤ 128 ⌝ }
     requires { ⌜ length (now filter) ≡ 239 ⌝ }
@@ -105,4 +102,40 @@ pub(crate) fn resample(
     for n in 0..len12p8 {
         out[276 + n] = sums[n % 8 * 16 + n / 8] * scale;
     }
+}
+
+// Whether a set has its 239 entries and p is a step of the table.
+fn is_usable(filter: &[f32], p: usize) -> bool
+    ensures { λ r. ⌜ r ≡ usable (now (filter .entry)) p ⌝ }
+{
+    if filter.len() != 239 {
+        return false;
+    }
+    if p < 4 {
+        return false;
+    }
+    if p > 24 {
+        return false;
+    }
+    p * (120 / p) == 120
+}
+
+// Writes the frame's samples at 12.8 kHz after the 276 of history in out, and answers whether the set and
+// the step are usable. Where they are not, nothing is written.
+pub fn resample(
+    x: &[f32; 540],
+    p: usize,
+    filter: &[f32],
+    n_ms: FrameDuration,
+    out: &mut [f32; 404],
+) -> bool
+    ensures done { λ r. ⌜ r ≡ usable (now (filter .entry)) p ⌝ }
+    ensures signal { λ r. ⌜ now (out .exit) ≡ resampledInto (now (out .entry)) (now (x .entry)) (now (filter .entry)) p (lengthsOf «n_ms» .«len12p8») ⌝ }
+{
+    if !is_usable(filter, p) {
+        return false;
+    }
+    let l = lengths_of(n_ms);
+    write_outputs(x, p, filter, out, l.len12p8);
+    true
 }

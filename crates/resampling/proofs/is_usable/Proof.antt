@@ -4,9 +4,9 @@ use native.Mathlib.Nat.{div-le-of-le-mul, mul-le-mul}
 use native.Mathlib.Omega.{arith}
 use borrow.Author.Needs.{needs}
 use borrow.Author.Tests.{eq-eqb, ne-eqb, le-leb, lt-leb}
-use Rattle.signals.specs.Signals.{usable}
-use Rattle.signals.proofs.is_usable.Statement.{statement}
-use Rattle.signals.proofs.is_usable.Tie as tie
+use Rattle.resampling.specs.Resample.{usable}
+use Rattle.resampling.proofs.is_usable.Statement.{statement}
+use Rattle.resampling.proofs.is_usable.Tie as tie
 
 returns : tie.Need-returns
 unfolding usable

@@ -12,7 +12,7 @@ use Rattle.rates.specs.declared.table.Rate.{Rate}
 use Rattle.rates.specs.declared.table.FoundRate.the-variants.{Row}
 use Rattle.rates.proofs.Rows.{at-row, bound-at}
 use Rattle.rates.proofs.Known.{both}
-use Rattle.signals.specs.Signals.{usable}
+use Rattle.resampling.specs.Resample.{usable}
 
 -- p·(j - 120/p) is p·j - 120, and the taps from -120/p to 120/p are 240/p + 1
 pub step-divides : (hz : ℕ) (row : Rate) → rowOf hz ≡ Row row → (row .p * (120 / row .p) ≡ 120) × (240 / row .p ≡ 2 * (120 / row .p))

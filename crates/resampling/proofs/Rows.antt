@@ -14,8 +14,8 @@ use Rattle.floats.specs.Single.{_⊕_, _⊗_, at}
 use Rattle.lanes.specs.Lanes.{rowAdded, Lane, l0, l1, l2, l3, l4, l5, l6, l7, place, lane, listed}
 use Rattle.lanes.proofs.EachLane.{lane-all, lane-row, placed-eight, each-place, lane-at}
 use Rattle.slices.specs.Written.{written}
-use Rattle.signals.specs.Resample.{used, entry, taps}
-use Rattle.signals.specs.Rows.{Spread, tapLanes, Phases}
+use Rattle.resampling.specs.Resample.{used, entry, taps}
+use Rattle.resampling.specs.Rows.{Spread, tapLanes, Phases}
 use Rattle.slices.proofs.Written.{length-written, at-written-in, at-written-below}
 use Rattle.lanes.proofs.Times.{times-comm}
 use Rattle.slices.specs.Slices.{placed}

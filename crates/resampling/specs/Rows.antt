@@ -7,7 +7,7 @@ use lib.Ieee.{Float}
 use lib.ListN.{length}
 use Rattle.floats.specs.Single.{0·0, at}
 use Rattle.lanes.specs.Lanes.{all, listed, rowAdded}
-use Rattle.signals.specs.Resample.{used, entry}
+use Rattle.resampling.specs.Resample.{used, entry}
 use Rattle.lanes.specs.declared.Lanes.{Lanes}
 
 -- entry b of row s is the sample that tap s of output 8b reads

@@ -3,10 +3,10 @@ use Prim.Native.Nat.{_-_, _≤_}
 use mathlib.Core.Path.{_≡_}
 use native.Mathlib.Omega.{arith}
 use borrow.Author.Needs.{needs}
-use Rattle.signals.specs.Rows.{Phases}
-use Rattle.signals.proofs.Rows.{phases-more}
-use Rattle.signals.proofs.resample.sums_of.Statement.{statement}
-use Rattle.signals.proofs.resample.sums_of.Tie as tie
+use Rattle.resampling.specs.Rows.{Phases}
+use Rattle.resampling.proofs.Rows.{phases-more}
+use Rattle.resampling.proofs.sums_of.Statement.{statement}
+use Rattle.resampling.proofs.sums_of.Tie as tie
 
 abbrev Inv-loop : tie.InvT-loop
 Inv-loop rows p filter sums₀ n₀ sums n = (n ≤ 8) × Phases rows filter p n sums
