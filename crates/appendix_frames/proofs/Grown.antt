@@ -6,8 +6,10 @@ use lib.Dec.{eqb}
 use lib.Ieee.{Float, binary32, ofBits}
 use lib.ListN.{getD, take}
 use Rattle.rates.specs.Answers.{numberOf}
+use Rattle.lag.specs.Sent.{sentOf}
 use Rattle.lag.specs.declared.pitch.PitchRecord.{PitchRecord}
-use Rattle.lag.specs.declared.pitch.PitchRecord.the-variants.{Absent, Present}
+use Rattle.lag.specs.declared.pitch.Sent.{Sent}
+use Rattle.lag.specs.declared.pitch.Sent.the-variants.{Absent, Present}
 use Rattle.encoder.specs.State.{started}
 use Rattle.encoder.specs.declared.state.Encoder.{Encoder}
 use Rattle.appendix_tally.specs.Near.{signalTolerance, correlationTolerance}
@@ -16,7 +18,7 @@ use Rattle.appendix_tally.specs.declared.tally.Tally.{Tally}
 use Rattle.appendix_tally.proofs.Grown.{same-grown, placed-grown, ended-grown, number-grown, floats-grown}
 use Rattle.appendix_frames.specs.Delayed.{delayedOf}
 use Rattle.appendix_frames.specs.Encodings.{stopped, afterStart, StartTaken}
-use Rattle.appendix_frames.specs.Frames.{fourAt, numbersCompared, pitchCompared, signalCompared, reportsCompared, frameCompared, afterFrame, FrameTaken}
+use Rattle.appendix_frames.specs.Frames.{fourAt, numbersCompared, sentCompared, pitchCompared, signalCompared, reportsCompared, frameCompared, afterFrame, FrameTaken}
 use Rattle.appendix_frames.specs.declared.encoding.Encoding.{Encoding}
 use Rattle.appendix_frames.specs.declared.given.Given.{Given}
 
@@ -32,16 +34,16 @@ numbers-grown : {t : Tally} (r : Tally) (present index active p i a : ℕ) → G
 numbers-grown r present index active p i a g =
     number-grown (numberCompared (numberCompared r present p) index i) active a (number-grown (numberCompared r present p) index i (number-grown r present p g))
 
-pitch-grown : {t : Tally} (r : Tally) (present index active : ℕ) (pitch : PitchRecord) → Grown t r → Grown t (pitchCompared r present index active pitch)
-pitch-grown r present index active Absent g = numbers-grown r present index active 0 0 0 g
-pitch-grown r present index active (Present p) g = numbers-grown r present index active 1 (p .index) (cond (p .active) 1 0) g
+sent-grown : {t : Tally} (r : Tally) (present index active : ℕ) (sent : Sent) → Grown t r → Grown t (sentCompared r present index active sent)
+sent-grown r present index active Absent g = numbers-grown r present index active 0 0 0 g
+sent-grown r present index active (Present p) g = numbers-grown r present index active 1 (p .index) (cond (p .active) 1 0) g
 
 reports-grown : {t : Tally} (r : Tally) (bytes : List ℕ) (lag : ℕ) (pitch : PitchRecord) (nc : Float) → Grown t r → Grown t (reportsCompared r bytes lag pitch nc)
 reports-grown r bytes lag pitch nc g =
     let n = numberCompared r (fourAt bytes 6) lag in
     let p = pitchCompared n (getD bytes 0 0) (fourAt bytes 1) (getD bytes 5 0) pitch in
     floats-grown p (ofBits binary32 (fourAt bytes 10) ∷ []) (nc ∷ []) correlationTolerance
-    (pitch-grown n (getD bytes 0 0) (fourAt bytes 1) (getD bytes 5 0) pitch (number-grown r (fourAt bytes 6) lag g))
+    (sent-grown n (getD bytes 0 0) (fourAt bytes 1) (getD bytes 5 0) (sentOf pitch) (number-grown r (fourAt bytes 6) lag g))
 
 frame-compared-grown : {t : Tally} (r : Tally) (given : Given) (e : Encoder) (pitch : PitchRecord) → Grown t r → Grown t (frameCompared r given e pitch)
 unfolding frameCompared

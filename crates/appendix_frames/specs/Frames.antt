@@ -8,8 +8,10 @@ use lib.Ieee.{Float, binary32, ofBits}
 use lib.ListN.{getD, take}
 use Rattle.vectors.specs.Numbers.{four}
 use Rattle.rates.specs.Answers.{numberOf}
+use Rattle.lag.specs.Sent.{sentOf}
 use Rattle.lag.specs.declared.pitch.PitchRecord.{PitchRecord}
-use Rattle.lag.specs.declared.pitch.PitchRecord.the-variants.{Absent, Present}
+use Rattle.lag.specs.declared.pitch.Sent.{Sent}
+use Rattle.lag.specs.declared.pitch.Sent.the-variants.{Absent, Present}
 use Rattle.appendix_tally.specs.Near.{signalTolerance, correlationTolerance}
 use Rattle.appendix_tally.specs.Tallies.{placedAt, numberCompared, floatsCompared}
 use Rattle.appendix_tally.specs.declared.tally.Place.{Place}
@@ -31,9 +33,13 @@ abbrev pub numbersCompared : Tally → ℕ → ℕ → ℕ → ℕ → ℕ → �
 numbersCompared t present index active p i a = numberCompared (numberCompared (numberCompared t present p) index i) active a
 
 -- the index and the active mark are 0 where there is no pitch
+abbrev pub sentCompared : Tally → ℕ → ℕ → ℕ → Sent → Tally
+sentCompared t present index active Absent = numbersCompared t present index active 0 0 0
+sentCompared t present index active (Present p) = numbersCompared t present index active 1 (p .index) (cond (p .active) 1 0)
+
+-- what is sent of a record is compared
 abbrev pub pitchCompared : Tally → ℕ → ℕ → ℕ → PitchRecord → Tally
-pitchCompared t present index active Absent = numbersCompared t present index active 0 0 0
-pitchCompared t present index active (Present p) = numbersCompared t present index active 1 (p .index) (cond (p .active) 1 0)
+pitchCompared t present index active pitch = sentCompared t present index active (sentOf pitch)
 
 -- the signal at 12.8 kHz
 abbrev pub signalCompared : Tally → List Float → List Float → ℕ → Tally

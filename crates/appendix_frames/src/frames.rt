@@ -11,6 +11,8 @@ use encoder::frame::Framed;
 use encoder::state::Encoder;
 use floats::bits::float_of;
 use lag::pitch::PitchRecord;
+use lag::pitch::Sent;
+use lag::pitch::sent_of;
 use published::CORRELATION_INTERPOLATION;
 use published::RESAMPLING;
 use published::SIGNAL_INTERPOLATION;
@@ -73,9 +75,9 @@ fn compare_numbers(
 fn compare_pitch(tally: Tally, present: u8, index: u32, active: u8, pitch: PitchRecord) -> Tally
     ensures { λ r. ⌜ r ≡ pitchCompared tally present index active pitch ⌝ }
 {
-    match pitch {
-        PitchRecord::Absent => compare_numbers(tally, present, index, active, 0, 0, 0),
-        PitchRecord::Present(found) => {
+    match sent_of(pitch) {
+        Sent::Absent => compare_numbers(tally, present, index, active, 0, 0, 0),
+        Sent::Present(found) => {
             let got_index = found.index as u64;
             let got_active = found.active as u64;
             compare_numbers(tally, present, index, active, 1, got_index, got_active)

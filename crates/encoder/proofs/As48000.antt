@@ -19,8 +19,9 @@ use Rattle.rates.specs.declared.config.Configured.{Configured}
 use Rattle.rates.specs.declared.config.Configured.the-variants.{Config, Refused}
 use Rattle.rates.proofs.Renaming.{config-as, configured-as, test-as, like-44100}
 use Rattle.found.specs.Found.{foundIn}
-use Rattle.encoder.specs.State.{startedWith, started, fitBy, fitConfig}
-use Rattle.encoder.specs.Judge.{counted, finiteSet, judgedSet, judgedCount, judgedBits, judged}
+use Rattle.encoder_refusals.specs.Refusals.{fitBy, counted, finiteSet, judgedSet, judgedCount, judgedBits}
+use Rattle.encoder.specs.State.{startedWith, started, fitConfig}
+use Rattle.encoder.specs.Judge.{judged}
 use Rattle.encoder.specs.Frame.{nextState, encoded, framedBy, framed}
 use Rattle.encoder.specs.Rates.{renamed, renamedFrame}
 use Rattle.encoder.specs.declared.state.Encoder.{Encoder}

@@ -52,13 +52,20 @@ found-takes c x d m k s nbits near t =
     (parameter-sendable x (l .start) (l .«len12p8») (d .«t_curr») k (t .0) (t .1))
 
 module _ (e : Encoder) (r k s : List Float) (frame : List ℤ) (nbits : ℕ) (near : Bool) where
+  -- the lag that is remembered is one of 17 to 114
+  remembered-range : (c : Lc3Config) → Judged e c r k s frame →
+      (17 ≤ encoded e c r k s frame nbits near .encoder .«t_prev») × (encoded e c r k s frame nbits near .encoder .«t_prev» ≤ 114)
+  unfolding encoded nextState
+  remembered-range c a =
+      let l = lengthsOf (c .«n_ms») in
+      detected-range (signalsOf (e .«x_s») (e .«x_12p8») (e .«x_6p4») (e .h50) (c .fs .p) l r frame .«x_6p4») (l .«len6p4») (e .«t_prev») (a .lag .0) (a .lag .1)
+
   -- a frame that is judged leaves a state that is fit, with the same configuration
   pub stays-fit : (c : Lc3Config) → judged e r k s frame nbits ≡ Config c → fitConfig (framed e r k s frame nbits near .encoder) ≡ Config c
   unfolding encoded nextState
   stays-fit c h =
       let a = judged-facts e r k s frame nbits c h in
-      let l = lengthsOf (c .«n_ms») in
-      let t = detected-range (signalsOf (e .«x_s») (e .«x_12p8») (e .«x_6p4») (e .h50) (c .fs .p) l r frame .«x_6p4») (l .«len6p4») (e .«t_prev») (a .lag .0) (a .lag .1) in
+      let t = remembered-range c a in
       rw (h, a .config, le-leb 17 _ (t .0), le-leb _ 114 (t .1))
 
   encoded-takes : (c : Lc3Config) → Judged e c r k s frame → Takes (encoded e c r k s frame nbits near .pitch)

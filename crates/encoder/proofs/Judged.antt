@@ -4,7 +4,7 @@ use mathlib.Core.Path.{_≡_, refl, _∙_, ap}
 use mathlib.Core.Bool.{Bool, true, false, cond, _&&_}
 use mathlib.Core.List.{List}
 use native.Mathlib.Omega.{arith}
-use borrow.Author.Tests.{eqb-true, leb-true}
+use borrow.Author.Tests.{eq-eqb, eqb-true, leb-true}
 use lib.IntN.{ℤ}
 use lib.Dec.{eqb, leb}
 use lib.ListN.{length}
@@ -23,9 +23,10 @@ use Rattle.rates.specs.declared.config.Configured.{Configured}
 use Rattle.rates.specs.declared.config.Configured.the-variants.{Config, Refused}
 use Rattle.rates.proofs.Rows.{bound-at}
 use Rattle.rates.proofs.Known.{both, known}
-use Rattle.signals.proofs.Steps.{step-bounds}
-use Rattle.encoder.specs.State.{fitConfig, fitBy}
-use Rattle.encoder.specs.Judge.{counted, finiteSet, judgedSet, judgedCount, judgedBits, judged}
+use Rattle.resampling.proofs.Steps.{step-bounds}
+use Rattle.encoder_refusals.specs.Refusals.{fitBy, counted, finiteSet, judgedSet, judgedCount, judgedBits, judgedApart}
+use Rattle.encoder.specs.State.{fitConfig}
+use Rattle.encoder.specs.Judge.{judged}
 use Rattle.encoder.specs.declared.state.Encoder.{Encoder}
 
 pub record Judged (e : Encoder) (c : Lc3Config) (r k s : List Float) (frame : List ℤ) : Type 0 where
@@ -109,3 +110,20 @@ judged-facts e r k s frame nbits c h =
       finite = first-finite r k s (set .2);
       lag = (leb-true _ _ (range .0), leb-true _ _ (range .1));
     }
+
+-- a frame that has the count of its configuration is judged as a call that brings no samples
+pub right-count : (e : Encoder) (r k s : List Float) (frame : List ℤ) (nbits : ℕ) → ((c : Lc3Config) → fitConfig e ≡ Config c → length frame ≡ c .nf) →
+    judged e r k s frame nbits ≡ judgedApart (fitConfig e) r k s nbits
+unfolding judged
+right-count e r k s frame nbits h = ap (λ (f : Configured). judgedBits f nbits) (go (fitConfig e) refl)
+  where
+    counts : (c : Lc3Config) → fitConfig e ≡ Config c → (a b : Bool) →
+        judgedCount (cond a (cond b (Config c) (Refused CoefficientNotFinite)) (Refused CoefficientCount)) (length frame) ≡
+        cond a (cond b (Config c) (Refused CoefficientNotFinite)) (Refused CoefficientCount)
+    counts c f true true = rw (eq-eqb (length frame) (c .nf) (h c f))
+    counts c f true false = refl
+    counts c f false b = refl
+
+    go : (f : Configured) → fitConfig e ≡ f → judgedCount (judgedSet f r k s) (length frame) ≡ judgedSet f r k s
+    go (Refused a) f = refl
+    go (Config c) f = counts c f (counted r k s) (finiteSet r k s)

@@ -18,10 +18,11 @@ use Rattle.rates.specs.declared.config.Lc3Config.{Lc3Config}
 use Rattle.rates.specs.declared.config.Configured.the-variants.{Config}
 use Rattle.rates.proofs.Rows.{at-row}
 use Rattle.lag.specs.declared.pitch.PitchRecord.the-variants.{Absent}
-use Rattle.signals.specs.Resample.{scale}
+use Rattle.resampling.specs.Resample.{scale}
 use Rattle.rates.specs.Lengths.{lengthsOf}
 use Rattle.encoder.specs.State.{clearedAt}
-use Rattle.encoder.specs.Judge.{counted, finiteSet, judged}
+use Rattle.encoder_refusals.specs.Refusals.{counted, finiteSet}
+use Rattle.encoder.specs.Judge.{judged}
 use Rattle.found.specs.Found.{foundIn, ready}
 use Rattle.encoder.specs.Frame.{nextState, encoded, framed}
 use Rattle.encoder.specs.declared.frame.Framed.{Framed}

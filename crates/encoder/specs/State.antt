@@ -1,13 +1,13 @@
 -- The encoder's state: how it starts, and where it is fit for a frame.
 use Prim.Native.Nat.{ℕ}
-use mathlib.Core.Bool.{Bool, true, false, _&&_}
-use lib.Dec.{leb}
+use mathlib.Core.Bool.{false}
 use lib.ListN.{replicate}
 use Rattle.floats.specs.Single.{0·0}
 use Rattle.rates.specs.Configs.{configOf}
-use Rattle.rates.specs.declared.answer.Answer.the-variants.{Done, UnfitState}
+use Rattle.rates.specs.declared.answer.Answer.the-variants.{Done}
 use Rattle.rates.specs.declared.config.Configured.{Configured}
 use Rattle.rates.specs.declared.config.Configured.the-variants.{Config, Refused}
+pub use Rattle.encoder_refusals.specs.Refusals.{fitBy, fitOf}
 use Rattle.encoder.specs.declared.state.Encoder.{Encoder}
 use Rattle.encoder.specs.declared.state.Started.{Started}
 
@@ -33,12 +33,6 @@ startedWith (Refused a) rate duration = record { answer = a; encoder = clearedAt
 abbrev pub started : ℕ → ℕ → Started
 started rate duration = startedWith (configOf rate duration) rate duration
 
--- unfit where there is no configuration, or where the lag is out of its range
-abbrev pub fitBy : Configured → Bool → Configured
-fitBy (Config c) true = Config c
-fitBy (Config c) false = Refused UnfitState
-fitBy (Refused a) b = Refused UnfitState
-
--- the configuration of a state: it is unfit where its rate or duration is not in the table, or its previous lag outside 17 to 114
+-- the configuration of a state that is fit
 abbrev pub fitConfig : Encoder → Configured
-fitConfig e = fitBy (configOf (e .rate) (e .duration)) (leb 17 (e .«t_prev») && leb (e .«t_prev») 114)
+fitConfig e = fitOf (e .rate) (e .duration) (e .«t_prev»)

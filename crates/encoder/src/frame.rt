@@ -2,8 +2,11 @@
 use crate::history::last_60;
 use crate::history::last_114;
 use crate::history::last_276;
-use crate::judge::judge;
 use crate::state::Encoder;
+use encoder_refusals::fit_config;
+use encoder_refusals::judge_bits;
+use encoder_refusals::judge_count;
+use encoder_refusals::judge_set;
 use found::Found;
 use found::activation::Memory;
 use found::found_in;
@@ -141,14 +144,14 @@ impl Encoder {
     ) -> Framed
         ensures { λ r. ⌜ r ≡ framed self (now (resampling .entry)) (now («correlation_interpolation» .entry)) (now («signal_interpolation» .entry)) (now («x_s» .entry)) nbits «near_nyquist_flag» ⌝ }
     {
-        match judge(
-            self,
+        let fit = fit_config(self.rate, self.duration, self.t_prev);
+        let set_judged = judge_set(
+            fit,
             resampling,
             correlation_interpolation,
             signal_interpolation,
-            x_s,
-            nbits,
-        ) {
+        );
+        match judge_bits(judge_count(set_judged, x_s.len()), nbits) {
             Configured::Refused(answer) => refused(self, answer),
             Configured::Config(c) => encode(
                 self,

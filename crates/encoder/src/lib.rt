@@ -2,5 +2,4 @@
 // state out. A state comes from `state::start`, and each frame is a call of its `frame`.
 pub mod frame;
 mod history;
-mod judge;
 pub mod state;

@@ -1,11 +1,11 @@
-// The encoder's state, its start, and the test whether a state is fit for a frame.
+// The encoder's state and its start.
 use found::activation::Memory;
 use rates::answer::Answer;
 use rates::config::Configured;
 use rates::config::config;
 use signals::highpass::HighPass;
 ghost use mathlib.Core.Path.{_≡_};
-ghost use Rattle.encoder.specs.State.{clearedAt, started, fitConfig};
+ghost use Rattle.encoder.specs.State.{clearedAt, started};
 
 // The rate in Hz and the duration in microseconds, the previous lag at 6.4 kHz, what the activation
 // and the high-pass remember, and the samples before the frame at the rate, at 12.8 and at 6.4 kHz,
@@ -67,24 +67,5 @@ pub fn start(rate: u32, duration: u32) -> Started
             answer,
             encoder: cleared(48000, 10000),
         },
-    }
-}
-
-// The configuration of a fit state; any other is refused.
-pub(crate) fn fit_config(e: Encoder) -> Configured
-    ensures { λ r. ⌜ r ≡ fitConfig e ⌝ }
-{
-    let t_prev = e.t_prev;
-    match config(e.rate, e.duration) {
-        Configured::Config(c) => {
-            if t_prev < 17 {
-                return Configured::Refused(Answer::UnfitState);
-            }
-            if t_prev > 114 {
-                return Configured::Refused(Answer::UnfitState);
-            }
-            Configured::Config(c)
-        }
-        Configured::Refused(_) => Configured::Refused(Answer::UnfitState),
     }
 }

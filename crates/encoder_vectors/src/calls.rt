@@ -4,6 +4,8 @@ use encoder::frame::Framed;
 use encoder::state::Encoder;
 use encoder::state::start;
 use lag::pitch::PitchRecord;
+use lag::pitch::Sent;
+use lag::pitch::sent_of;
 use rates::answer::number;
 use vectors::numbers::of_four;
 use vectors::numbers::of_two;
@@ -64,9 +66,9 @@ fn compare_numbers(
 
 // Compares a pitch record with the file's, whose index and active mark are 0 where there is no pitch.
 fn compare_pitch(tally: Tally, expected: &[u8; 8], pitch: PitchRecord) -> Tally {
-    match pitch {
-        PitchRecord::Absent => compare_numbers(tally, expected, 0, 0, 0),
-        PitchRecord::Present(present) => {
+    match sent_of(pitch) {
+        Sent::Absent => compare_numbers(tally, expected, 0, 0, 0),
+        Sent::Present(present) => {
             compare_numbers(
                 tally,
                 expected,

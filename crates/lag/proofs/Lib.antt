@@ -4,3 +4,4 @@ pub mod Rounding
 pub mod Stars
 pub mod Gains
 pub mod Reach
+pub mod Receiving

@@ -11,9 +11,10 @@ use lib.ListN.{length, take, drop, replicate}
 use Rattle.rates.specs.declared.answer.Answer.the-variants.{Done, PaddingSet, TooFewBytes}
 use Rattle.lag.specs.declared.pitch.PitchRecord.{PitchRecord}
 use Rattle.lag.specs.declared.pitch.PitchRecord.the-variants.{Absent, Present}
+use Rattle.lag.specs.declared.pitch.Sent.{Sent}
 use Rattle.packing.specs.Bits.{bitsOf, valueOf, bitsIn, bytesOf, clear}
 use Rattle.packing.specs.Form.{form}
-use Rattle.packing.specs.Writings.{indexTooLarge, writing}
+use Rattle.packing.specs.Writings.{indexTooLarge, sentWriting}
 use Rattle.packing.specs.Readings.{refusedReading, readAs, presentFrom, readBits, reading}
 use Rattle.packing.specs.declared.read.Reading.{Reading}
 use Rattle.packing.proofs.Numbers.{value-bits, value-append, bits-append, clear-zero}
@@ -73,7 +74,7 @@ early a l u = ap (λ (x : Bool). readBits (x ∷ bitsOf 7 a)) (eq-eqb (a / 128 %
 
 -- the two bytes of a present record
 pub form-present : (i : ℕ) (active : Bool) →
-    form (Present (record { index = i; active = active })) ≡ (128 + (cond active 64 0 + i / 8 % 64)) ∷ (32 * (i % 8)) ∷ []
+    form (Sent.Present (record { index = i; active = active })) ≡ (128 + (cond active 64 0 + i / 8 % 64)) ∷ (32 * (i % 8)) ∷ []
 unfolding form bytesOf bitsOf valueOf
 form-present i active =
     ap (λ (bits : List Bool). bytesOf 2 (true ∷ active ∷ (bits ++ replicate 5 false))) (bits-append 6 3 i)
@@ -82,15 +83,15 @@ form-present i active =
     (value-append (bitsOf 3 i) (replicate 5 false) ∙ omega (arith, value-bits 3 i))
 
 -- the forms that the recorder's rules name: present, active, 380 is EF 80, and absent is 00
-pub stated-forms : (form (Present (record { index = 380; active = true })) ≡ 239 ∷ 128 ∷ []) × (form Absent ≡ 0 ∷ [])
+pub stated-forms : (form (Sent.Present (record { index = 380; active = true })) ≡ 239 ∷ 128 ∷ []) × (form Sent.Absent ≡ 0 ∷ [])
 unfolding form bytesOf bitsOf valueOf
 stated-forms = (refl, refl)
 
 -- a record whose form is these bytes, written where they fit
-pub written-over : (pitch : PitchRecord) (bytes room : List ℕ) → indexTooLarge pitch ≡ false → form pitch ≡ bytes → length bytes ≤ length room →
-    writing pitch room ≡ (record { answer = Done; written = length bytes }, bytes ++ drop (length bytes) room)
-unfolding writing
-written-over pitch bytes room h e l = rw (h, e, le-ltb (length room) (length bytes) l)
+pub written-over : (sent : Sent) (bytes room : List ℕ) → indexTooLarge sent ≡ false → form sent ≡ bytes → length bytes ≤ length room →
+    sentWriting sent room ≡ (record { answer = Done; written = length bytes }, bytes ++ drop (length bytes) room)
+unfolding sentWriting
+written-over sent bytes room h e l = rw (h, e, le-ltb (length room) (length bytes) l)
 
 -- no reading uses more than two bytes
 pub at-most-two : (bytes : List ℕ) → reading bytes .used ≤ 2

@@ -1,14 +1,14 @@
--- The one form of a pitch record in bytes.
+-- The one form in bytes of what is sent of a pitch record.
 use Prim.Native.Nat.{ℕ, _-_, _/_, _%_}
 use mathlib.Core.Bool.{Bool, true, false}
 use mathlib.Core.List.{List, [], _∷_, _++_}
 use lib.ListN.{length, replicate}
-use Rattle.lag.specs.declared.pitch.PitchRecord.{PitchRecord}
-use Rattle.lag.specs.declared.pitch.PitchRecord.the-variants.{Absent, Present}
+use Rattle.lag.specs.declared.pitch.Sent.{Sent}
+use Rattle.lag.specs.declared.pitch.Sent.the-variants.{Absent, Present}
 use Rattle.packing.specs.Bits.{bitsOf, bytesOf}
 
 -- one bit for presence; if present, one for active and nine for the index
-abbrev pub recordBits : PitchRecord → List Bool
+abbrev pub recordBits : Sent → List Bool
 recordBits Absent = false ∷ []
 recordBits (Present p) = true ∷ p .active ∷ bitsOf 9 (p .index)
 
@@ -20,5 +20,5 @@ padding n = (8 - n % 8) % 8
 abbrev pub padded : List Bool → List Bool
 padded bits = bits ++ replicate (padding (length bits)) false
 
-unfoldable pub form : PitchRecord → List ℕ
-form pitch = bytesOf (length (padded (recordBits pitch)) / 8) (padded (recordBits pitch))
+unfoldable pub form : Sent → List ℕ
+form sent = bytesOf (length (padded (recordBits sent)) / 8) (padded (recordBits sent))

@@ -2,6 +2,8 @@
 // bytes, to be compared with another packer's.
 use lag::pitch::PitchRecord;
 use lag::pitch::Present;
+use lag::pitch::Sent;
+use lag::pitch::sent_of;
 use libc::STDOUT_FILENO;
 use packing::read::Reading;
 use packing::read::read_pitch;
@@ -17,11 +19,11 @@ fn print_cell(n: u64) {
 
 // Index and active, or two dashes.
 fn print_pitch(pitch: PitchRecord) {
-    match pitch {
-        PitchRecord::Absent => {
+    match sent_of(pitch) {
+        Sent::Absent => {
             io::write_all(STDOUT_FILENO, b"-\t-\t");
         }
-        PitchRecord::Present(present) => {
+        Sent::Present(present) => {
             print_cell(present.index as u64);
             print_cell(present.active as u64);
         }

@@ -2,8 +2,10 @@
 use mathlib.Core.Bool.{cond}
 use Rattle.rates.specs.declared.table.Rate.{Rate}
 use Rattle.lag.specs.Lag.{lookedUpLag}
+use Rattle.lag.specs.Sent.{sentOf}
 use Rattle.lag.specs.declared.pitch.PitchRecord.{PitchRecord}
-use Rattle.lag.specs.declared.pitch.PitchRecord.the-variants.{Absent, Present}
+use Rattle.lag.specs.declared.pitch.Sent.{Sent}
+use Rattle.lag.specs.declared.pitch.Sent.the-variants.{Absent, Present}
 use Rattle.lag.specs.declared.rescale.LookedUpLag.{LookedUpLag}
 use Rattle.replaying.specs.declared.rounding.Rounding.{Rounding}
 
@@ -13,6 +15,9 @@ roundingOf (LookedUpLag.Lag l) = Rounding.Difference (l .rounding)
 roundingOf LookedUpLag.IndexTooLarge = Rounding.Dash
 
 -- an absent or inactive pitch shows no lag
+abbrev pub sentRounding : Rate → Sent → Rounding
+sentRounding fs Absent = Rounding.Dash
+sentRounding fs (Present p) = cond (p .active) (roundingOf (lookedUpLag fs (p .index))) Rounding.Dash
+
 abbrev pub roundingFor : Rate → PitchRecord → Rounding
-roundingFor fs Absent = Rounding.Dash
-roundingFor fs (Present p) = cond (p .active) (roundingOf (lookedUpLag fs (p .index))) Rounding.Dash
+roundingFor fs pitch = sentRounding fs (sentOf pitch)

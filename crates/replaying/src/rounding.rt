@@ -1,5 +1,7 @@
 // How the lag of a frame was rounded, as its row shows it.
 use lag::pitch::PitchRecord;
+use lag::pitch::Sent;
+use lag::pitch::sent_of;
 use lag::rescale::LookedUpLag;
 use lag::rescale::look_up_lag;
 use rates::table::Rate;
@@ -16,9 +18,9 @@ pub enum Rounding {
 pub(crate) fn rounding_for(fs: Rate, pitch: PitchRecord) -> Rounding
     ensures { λ r. ⌜ r ≡ roundingFor fs pitch ⌝ }
 {
-    match pitch {
-        PitchRecord::Absent => Rounding::Dash,
-        PitchRecord::Present(present) => {
+    match sent_of(pitch) {
+        Sent::Absent => Rounding::Dash,
+        Sent::Present(present) => {
             if !present.active {
                 return Rounding::Dash;
             }

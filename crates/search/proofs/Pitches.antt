@@ -11,7 +11,8 @@ use lib.ListN.{length, take, drop, length-take, length-drop}
 use Rattle.floats.specs.Single.{_⊗_, 0·0, decimal, at}
 use Rattle.root.specs.SquareRoot.{rootOf}
 use Rattle.root.specs.declared.Root.the-variants.{Root as found}
-use Rattle.search.specs.Pitch.{correlation, energy, correlations, weight, weighted, searched, indexOfMax, nearFrom, nearTo, lag1, lag2, overRoot, normalised, withPresence, chosen, detected, lagWithin}
+use Rattle.search.specs.Pitch.{correlation, energy, correlations, weight, weighted, searched, indexOfMax, nearFrom, nearTo, lag1, lag2, overRoot, rootAt, normalised, candidateAt, withPresence, chosen, detected, lagWithin}
+use Rattle.search.specs.declared.pitch.Candidate.{Candidate}
 use Rattle.search.proofs.Listed.{listOf-length, listOf-at}
 
 -- a search among n entries stays among them
@@ -95,12 +96,12 @@ correlations-at x len lag low high =
     let same : 17 + (lag - 17) ≡ lag = omega arith in
     listOf-at _ 98 (lag - 17) (omega arith) ∙ rw same
 
-chosen-range : (t1 : ℕ) (n1 : Float) (t2 : ℕ) (n2 : Float) → (17 ≤ t1) × (t1 ≤ 114) → (17 ≤ t2) × (t2 ≤ 114) →
-    (17 ≤ chosen t1 n1 t2 n2 .«t_curr») × (chosen t1 n1 t2 n2 .«t_curr» ≤ 114)
+chosen-range : (a b : Candidate) → (17 ≤ a .lag) × (a .lag ≤ 114) → (17 ≤ b .lag) × (b .lag ≤ 114) →
+    (17 ≤ chosen a b .«t_curr») × (chosen a b .«t_curr» ≤ 114)
 unfolding chosen
-chosen-range t1 n1 t2 n2 p q = go (lt (decimal 85 2 ⊗ n1) n2)
+chosen-range a b p q = go (lt (decimal 85 2 ⊗ a .normcorr) (b .normcorr))
   where
-    go : (b : Bool) → let d = cond b (withPresence t2 n2) (withPresence t1 n1) in (17 ≤ d .«t_curr») × (d .«t_curr» ≤ 114)
+    go : (w : Bool) → let d = cond w (withPresence b) (withPresence a) in (17 ≤ d .«t_curr») × (d .«t_curr» ≤ 114)
     go true = q
     go false = p
 
@@ -110,7 +111,7 @@ pub detected-range : (x : List Float) (len previous : ℕ) → 17 ≤ previous �
 unfolding detected
 detected-range x len previous low high =
     let r = correlations x len in
-    chosen-range (lag1 r) _ (lag2 r previous) _ (lag1-range r) (omega (arith, lag2-range r previous (correlations-length x len) low high))
+    chosen-range (candidateAt x len (lag1 r)) (candidateAt x len (lag2 r previous)) (lag1-range r) (omega (arith, lag2-range r previous (correlations-length x len) low high))
 
 -- a correlation above 0.0 over a root of 0.0 is infinite
 pub zero-root-is-infinite : (r : Float) → lt 0·0 r ≡ true → overRoot r (found 0·0) ≡ inf false
@@ -124,8 +125,8 @@ zero-root-is-infinite (fin false (suc m) e) h = rw (ne-eqb (suc m) 0 (λ z. omeg
 
 -- energies whose product is rounded to 0.0 make a correlation above 0.0 infinite, and the pitch at that lag present
 pub zero-energies : (x : List Float) (len lag : ℕ) → energy x len 0 ⊗ energy x len lag ≡ 0·0 → lt 0·0 (correlation x len lag) ≡ true →
-    (normalised x len lag ≡ inf false) × (withPresence lag (normalised x len lag) .present ≡ true)
-unfolding normalised rootOf lt round
+    (normalised x len lag ≡ inf false) × (withPresence (candidateAt x len lag) .present ≡ true)
+unfolding normalised rootAt rootOf lt round
 zero-energies x len lag z h =
     let infinite : normalised x len lag ≡ inf false = rw z (zero-root-is-infinite (correlation x len lag) h) in
     (infinite, rw infinite)

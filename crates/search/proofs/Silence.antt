@@ -11,8 +11,9 @@ use lib.Ieee.{Float, nan, inf, fin, up, down, unlike, lt, add, mul, div, round}
 use lib.Ieee.Fits.{down-pos}
 use Rattle.floats.specs.Single.{_⊗_, 0·0, at}
 use Rattle.root.specs.SquareRoot.{rootOf}
+use Rattle.root.specs.declared.Root.the-variants.{Root as found}
 use Rattle.lanes.specs.Sums.{productSum, window}
-use Rattle.search.specs.Pitch.{correlation, energy, correlations, weight, weighted, lag1, lag2, normalised, chosen, detected}
+use Rattle.search.specs.Pitch.{correlation, energy, correlations, weight, weighted, lag1, lag2, rootAt, normalised, chosen, detected}
 use Rattle.search.proofs.Listed.{listOf-at}
 use Rattle.search.proofs.Pitches.{weighted-length, stays-first}
 use Rattle.lanes.proofs.Times.{round-zero}
@@ -52,9 +53,13 @@ module _ (x : List Float) (len : ℕ) (short : len ≤ 64) (silent : (i : ℕ) �
   no-energy : (lag : ℕ) → energy x len lag ≡ 0·0
   no-energy lag = zero-sum (window x (114 - lag)) (window x (114 - lag)) len (λ i h. silent (114 - lag + i) (omega arith)) (λ i h. silent (114 - lag + i) (omega arith))
 
+  zero-root : (lag : ℕ) → rootAt x len lag ≡ found 0·0
+  unfolding rootAt rootOf mul
+  zero-root lag = rw (no-energy 0, no-energy lag)
+
   nothing-normalised : (lag : ℕ) → normalised x len lag ≡ 0·0
-  unfolding normalised rootOf mul div lt
-  nothing-normalised lag = rw (no-correlation lag, no-energy 0, no-energy lag)
+  unfolding normalised div lt
+  nothing-normalised lag = rw (no-correlation lag, zero-root lag)
 
   null-weighted : (i : ℕ) → i < 98 → Null (at (weighted (correlations x len)) i)
   unfolding weighted correlations
@@ -67,7 +72,8 @@ module _ (x : List Float) (len : ℕ) (short : len ≤ 64) (silent : (i : ℕ) �
       let long = weighted-length (correlations x len) in
       rw (stays-first r (length r) (λ i h. null-lt (null-weighted 0 (omega arith)) (null-weighted i (omega (arith, long)))))
 
-  -- from silence: lag 17, absent, whatever the previous lag was
-  pub silence : (previous : ℕ) → detected x len previous ≡ record { «t_curr» = 17; present = false }
+  -- from silence: lag 17, absent, with a correlation and a root of 0.0, whatever the previous lag was
+  pub silence : (previous : ℕ) → detected x len previous ≡ record { «t_curr» = 17; present = false; correlation = 0·0; root = found 0·0 }
   unfolding detected chosen mul lt round
-  silence previous = rw (nothing-normalised (lag1 (correlations x len)), nothing-normalised (lag2 (correlations x len) previous), first-lag)
+  silence previous =
+      rw (nothing-normalised (lag1 (correlations x len)), nothing-normalised (lag2 (correlations x len) previous), first-lag, no-correlation 17, zero-root 17)

@@ -12,6 +12,7 @@ use Rattle.root.specs.declared.Root.the-variants.{Root as found, NoRoot}
 use Rattle.lanes.specs.Sums.{productSum, window}
 use Rattle.search.specs.Lists.{listOf}
 use Rattle.search.specs.declared.pitch.Detected.{Detected}
+use Rattle.search.specs.declared.pitch.Candidate.{Candidate}
 
 -- the frame's correlation with what lies lag samples before it
 abbrev pub correlation : List Float → ℕ → ℕ → Float
@@ -67,25 +68,31 @@ abbrev pub overRoot : Float → Root → Float
 overRoot r NoRoot = 0·0
 overRoot r (found v) = aboveZero (r ⊘ v)
 
--- the correlation at a lag, over the root of the product of the two energies
-unfoldable pub normalised : List Float → ℕ → ℕ → Float
-normalised x len lag = overRoot (correlation x len lag) (rootOf (energy x len 0 ⊗ energy x len lag))
+-- the root of the product of the two energies
+unfoldable pub rootAt : List Float → ℕ → ℕ → Root
+rootAt x len lag = rootOf (energy x len 0 ⊗ energy x len lag)
 
--- present only above 0.6
-abbrev pub withPresence : ℕ → Float → Detected
-withPresence lag n = record { «t_curr» = lag; present = lt (decimal 6 1) n }
+-- the correlation at a lag, over that root
+unfoldable pub normalised : List Float → ℕ → ℕ → Float
+normalised x len lag = overRoot (correlation x len lag) (rootAt x len lag)
+
+-- a lag to choose from
+abbrev pub candidateAt : List Float → ℕ → ℕ → Candidate
+candidateAt x len lag = record { lag = lag; correlation = correlation x len lag; root = rootAt x len lag; normcorr = normalised x len lag }
+
+-- present only above 0.6; the correlation and the root are kept
+abbrev pub withPresence : Candidate → Detected
+withPresence c = record { «t_curr» = c .lag; present = lt (decimal 6 1) (c .normcorr); correlation = c .correlation; root = c .root }
 
 -- lag 2 wins only above 0.85 times the first
-unfoldable pub chosen : ℕ → Float → ℕ → Float → Detected
-chosen t1 n1 t2 n2 = cond (lt (decimal 85 2 ⊗ n1) n2) (withPresence t2 n2) (withPresence t1 n1)
+unfoldable pub chosen : Candidate → Candidate → Detected
+chosen first second = cond (lt (decimal 85 2 ⊗ first .normcorr) (second .normcorr)) (withPresence second) (withPresence first)
 
 -- the lag of a frame, by the previous one
 unfoldable pub detected : List Float → ℕ → ℕ → Detected
 detected x len previous =
     let r = correlations x len in
-    let t1 = lag1 r in
-    let t2 = lag2 r previous in
-    chosen t1 (normalised x len t1) t2 (normalised x len t2)
+    chosen (candidateAt x len (lag1 r)) (candidateAt x len (lag2 r previous))
 
 -- a previous lag outside 17 to 114 counts as 17
 abbrev pub lagWithin : ℕ → ℕ

@@ -8,11 +8,9 @@ use root::Root;
 ghost use mathlib.Core.Path.{_≡_};
 ghost use Prim.Native.Nat.{_+_, _≤_};
 ghost use lib.ListN.{length};
-ghost use Rattle.floats.specs.Single.{_⊗_};
-ghost use Rattle.root.specs.SquareRoot.{rootOf};
 ghost use Rattle.lanes.specs.Sums.{productSum, window};
 ghost use Rattle.search.specs.Lists.{listOf};
-ghost use Rattle.search.specs.Pitch.{correlations, weighted, indexOfMax, energy, overRoot, lag1, nearFrom, nearTo, lag2, withPresence, detected, lagWithin};
+ghost use Rattle.search.specs.Pitch.{correlations, weighted, indexOfMax, energy, rootAt, overRoot, lag1, nearFrom, nearTo, lag2, withPresence, detected, lagWithin};
 ghost use Rattle.rates.specs.Lengths.{lengthsOf};
 
 // The smallest lag at 6.4 kHz.
@@ -21,9 +19,21 @@ const K_MIN: usize = 17;
 // The largest lag at 6.4 kHz, and the entry of the frame's first sample.
 const K_MAX: usize = 114;
 
+// The chosen lag and whether there is a pitch, with the lag's plain correlation and the root of the
+// product of the two energies.
 pub struct Detected {
     pub t_curr: usize,
     pub present: bool,
+    pub correlation: f32,
+    pub root: Root,
+}
+
+// A lag to choose from: its correlation, plain and normalised, and the root that it is divided by.
+struct Candidate {
+    lag: usize,
+    correlation: f32,
+    root: Root,
+    normcorr: f32,
 }
 
 // The sums over the frame's products with each window of its length that starts at entries 0 to 97.
@@ -102,19 +112,33 @@ fn compute_normalized_value(x_6p4: &[f32; 178], len6p4: usize, lag: usize) -> f3
     sum_of_products(&x_6p4[..], from, from, len6p4)
 }
 
-// The correlation r at a lag over the root of the two energies. It is 0.0 where there is no root,
-// and where the quotient is a NaN or not above 0.
-fn normalised_correlation(x_6p4: &[f32; 178], len6p4: usize, lag: usize, r: f32) -> f32
-    requires { ⌜ («len6p4» ≤ 64) × (lag ≤ 114) ⌝ }
-    ensures { λ n. ⌜ n ≡ overRoot r (rootOf (energy (now («x_6p4» .entry)) «len6p4» 0 ⊗ energy (now («x_6p4» .entry)) «len6p4» lag)) ⌝ }
+// The correlation r over a root. It is 0.0 where there is no root, and where the quotient is a NaN or
+// not above 0.
+fn normalised_correlation(r: f32, root: Root) -> f32
+    ensures { λ n. ⌜ n ≡ overRoot r root ⌝ }
 {
-    let normvalue_nolag = compute_normalized_value(x_6p4, len6p4, 0);
-    let normvalue_lag = compute_normalized_value(x_6p4, len6p4, lag);
-    let Root::Root(normvalue) = root::sqrt(normvalue_nolag * normvalue_lag) else {
+    let Root::Root(normvalue) = root else {
         return 0.0;
     };
     let quotient = r / normvalue;
     if quotient > 0.0 { quotient } else { 0.0 }
+}
+
+// A lag with its correlation, over the root of the product of the two energies.
+fn candidate_at(x_6p4: &[f32; 178], len6p4: usize, lag: usize, correlation: f32) -> Candidate
+    requires { ⌜ («len6p4» ≤ 64) × (lag ≤ 114) ⌝ }
+    ensures { λ c. ⌜ c ≡ record { lag = lag; correlation = correlation; root = rootAt (now («x_6p4» .entry)) «len6p4» lag; normcorr = overRoot correlation (rootAt (now («x_6p4» .entry)) «len6p4» lag) } ⌝ }
+{
+    let normvalue_nolag = compute_normalized_value(x_6p4, len6p4, 0);
+    let normvalue_lag = compute_normalized_value(x_6p4, len6p4, lag);
+    let root = root::sqrt(normvalue_nolag * normvalue_lag);
+    let normcorr = normalised_correlation(correlation, root);
+    Candidate {
+        lag,
+        correlation,
+        root,
+        normcorr,
+    }
 }
 
 // The first lag: the largest of the weighted correlations.
@@ -159,13 +183,16 @@ fn lag_t2(r_6p4: &[f32], t_prev: usize) -> usize
     index_of_max_value(&r_6p4[from..to]) + from + K_MIN
 }
 
-// A lag with its normalised correlation: a pitch is present only above 0.6.
-fn with_presence(t_curr: usize, normcorr: f32) -> Detected
-    ensures { λ r. ⌜ r ≡ withPresence «t_curr» normcorr ⌝ }
+// The chosen lag: a pitch is present only above 0.6.
+fn with_presence(c: Candidate) -> Detected
+    ensures { λ r. ⌜ r ≡ withPresence c ⌝ }
 {
+    let root = c.root;
     Detected {
-        t_curr,
-        present: normcorr > 0.6,
+        t_curr: c.lag,
+        present: c.normcorr > 0.6,
+        correlation: c.correlation,
+        root,
     }
 }
 
@@ -178,15 +205,15 @@ fn detect(x_6p4: &[f32; 178], len6p4: usize, t_prev: usize) -> Detected
     let r_6p4 = correlations(x_6p4, len6p4);
     let t1 = lag_t1(&r_6p4);
     let t2 = lag_t2(&r_6p4[..], t_prev);
-    let normcorr1 = normalised_correlation(x_6p4, len6p4, t1, r_6p4[t1 - K_MIN]);
+    let first = candidate_at(x_6p4, len6p4, t1, r_6p4[t1 - K_MIN]);
     if t1 == t2 {
-        return with_presence(t1, normcorr1);
+        return with_presence(first);
     }
-    let normcorr2 = normalised_correlation(x_6p4, len6p4, t2, r_6p4[t2 - K_MIN]);
-    if normcorr2 > 0.85 * normcorr1 {
-        return with_presence(t2, normcorr2);
+    let second = candidate_at(x_6p4, len6p4, t2, r_6p4[t2 - K_MIN]);
+    if second.normcorr > 0.85 * first.normcorr {
+        return with_presence(second);
     }
-    with_presence(t1, normcorr1)
+    with_presence(first)
 }
 
 // A previous lag, and 17 where it is outside 17 to 114.

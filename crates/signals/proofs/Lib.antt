@@ -1,6 +1,4 @@
 -- What follows from the definitions of the signals, and what their proofs share.
 pub mod Fronts
-pub mod Rows
-pub mod Steps
 pub mod Silent
 pub mod SilentSignals

@@ -14,7 +14,7 @@ use lib.Ieee.Fits.{down-pos}
 use Rattle.floats.specs.Single.{_⊕_, _⊗_, 0·0, at, finite, allFinite}
 use Rattle.lanes.specs.Sums.{window}
 use Rattle.signals.specs.Straight.{sampled}
-use Rattle.signals.specs.Resample.{used, sample, entry, taps, scale, resampled}
+use Rattle.resampling.specs.Resample.{used, sample, entry, taps, scale, resampled}
 use Rattle.signals.specs.HighPass.{memories, passed, highPassed}
 use Rattle.signals.specs.Halving.{fiveTaps, halved}
 use Rattle.signals.specs.Signals.{Signals, atRate, at12p8, at6p4, signalsOf}

@@ -1,7 +1,5 @@
 -- The signals of a frame, in the order of docs/SCOPE.md.
 pub mod Straight
-pub mod Resample
-pub mod Rows
 pub mod HighPass
 pub mod Halving
 pub mod Signals

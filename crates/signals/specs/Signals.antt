@@ -1,15 +1,14 @@
 -- The signals of a frame at its rate, at 12.8 kHz and at 6.4 kHz, each after its history.
-use Prim.Native.Nat.{ℕ, _*_, _/_}
-use mathlib.Core.Bool.{Bool, cond, _&&_}
+use Prim.Native.Nat.{ℕ}
+use mathlib.Core.Bool.{cond}
 use mathlib.Core.List.{List}
-use lib.Dec.{eqb, leb}
 use lib.IntN.{ℤ}
 use lib.ListN.{length}
 use lib.Ieee.{Float}
 use Rattle.lanes.specs.Sums.{window}
 use Rattle.slices.specs.Written.{written}
 use Rattle.signals.specs.Straight.{laid, sampled}
-use Rattle.signals.specs.Resample.{resampled}
+use Rattle.resampling.specs.Resample.{resampled, usable}
 use Rattle.signals.specs.HighPass.{memories, highPassed}
 use Rattle.signals.specs.Halving.{halved}
 use Rattle.rates.specs.declared.lengths.Lengths.{Lengths}
@@ -33,10 +32,6 @@ pub record Signals : Type 0 where
   pub «x_12p8» : List Float
   pub «x_6p4» : List Float
   pub h50 : HighPass
-
--- the set has 239 entries, and p is a step of the table: from 4 to 24, and a divisor of 120
-unfoldable pub usable : List Float → ℕ → Bool
-usable filter p = eqb (length filter) 239 && leb 4 p && leb p 24 && eqb (p * (120 / p)) 120
 
 -- what `at_12p8` makes of an array y that holds the past: the frame's samples after it, high-passed; only the past where the set or the step is not usable
 unfoldable pub made12p8 : HighPass → List Float → List Float → List Float → ℕ → ℕ → List Float

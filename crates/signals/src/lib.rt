@@ -3,25 +3,23 @@
 // at 6.4 kHz z[0..113] and z[114..].
 mod halving;
 pub mod highpass;
-mod resample;
 mod straight;
 
 use crate::halving::halve;
 use crate::highpass::HighPass;
 use crate::highpass::high_pass;
-use crate::resample::resample;
 use crate::straight::take_in;
 use rates::duration::FrameDuration;
 use rates::lengths::lengths_of;
+use resampling::resample;
 ghost use mathlib.Core.Path.{_≡_};
-ghost use Prim.Native.Nat.{_*_, _/_};
 ghost use lib.ListN.{length};
 ghost use Rattle.rates.specs.Lengths.{lengthsOf};
 ghost use Rattle.slices.specs.Written.{written};
 ghost use Rattle.lanes.specs.Sums.{window};
 ghost use Rattle.signals.specs.Straight.{sampled};
 ghost use Rattle.signals.specs.Halving.{halved};
-ghost use Rattle.signals.specs.Signals.{usable, made12p8, left12p8};
+ghost use Rattle.signals.specs.Signals.{made12p8, left12p8};
 
 // Makes the signal at the frame's rate: the past, and the frame after it. Samples past the 480th are
 // dropped.
@@ -30,22 +28,6 @@ pub fn at_rate(past: &[f32; 60], frame: &[i16], x: &mut [f32; 540])
 {
     slices::put(&mut x[..], 0, past);
     take_in(frame, x);
-}
-
-// Whether a set has its 239 entries and p is a step of the table.
-fn is_usable(filter: &[f32], p: usize) -> bool
-    ensures { λ r. ⌜ r ≡ usable (now (filter .entry)) p ⌝ }
-{
-    if filter.len() != 239 {
-        return false;
-    }
-    if p < 4 {
-        return false;
-    }
-    if p > 24 {
-        return false;
-    }
-    p * (120 / p) == 120
 }
 
 // Makes the signal at 12.8 kHz: the past, and after it the frame, resampled from x and high-passed. It
@@ -63,11 +45,10 @@ pub fn at_12p8(
     ensures signal { λ r. ⌜ now (y .exit) ≡ made12p8 h50 (written (now (y .entry)) 0 (window (now (past .entry)) 0) 276) (now (x .entry)) (now (filter .entry)) p (lengthsOf «n_ms» .«len12p8») ⌝ }
 {
     slices::put(&mut y[..], 0, past);
-    if !is_usable(filter, p) {
+    if !resample(x, p, filter, n_ms, y) {
         return h50;
     }
     let l = lengths_of(n_ms);
-    resample(x, p, filter, y, l.len12p8);
     high_pass(h50, y, l.len12p8)
 }
 

@@ -6,9 +6,9 @@ use borrow.Author.Tests.{not-true, not-false}
 use Rattle.rates.proofs.Sizes.{Sized, sized}
 use Rattle.lanes.specs.Sums.{window}
 use Rattle.slices.specs.Written.{written}
-use Rattle.signals.specs.Signals.{usable, made12p8, left12p8}
+use Rattle.resampling.specs.Resample.{usable, resampledInto}
+use Rattle.signals.specs.Signals.{made12p8, left12p8}
 use Rattle.signals.proofs.Fronts.{front}
-use Rattle.signals.proofs.Steps.{usable-facts}
 use Rattle.signals.proofs.at_12p8.Statement.{statement}
 use Rattle.signals.proofs.at_12p8.Tie as tie
 
@@ -21,35 +21,31 @@ past-in c =
     c .put .ensures ∙ front (a .y .now) (a .past .now) 276 (search needs) (search needs)
 
 returns : tie.Need-returns
-unfolding made12p8 left12p8
+unfolding made12p8 left12p8 resampledInto
 returns c =
-    let no = sym (c .before .is-usable .ensures) ∙ not-true (c .before .is-usable .result) (c .if1 .taken) in
-    (rw no, rw no (past-in (c .before .before)))
+    let r = c .before in
+    let no = sym (r .resample .ensures .0) ∙ not-true (r .resample .result) (c .if1 .taken) in
+    (rw no, rw (r .resample .ensures .1, no) (past-in (r .before .before)))
 
 yes : (c : tie.Else1) →
-    let a = c .before .before .before .before .before .before .args in
+    let a = c .before .before .before .before .before .before .before .args in
     usable (a .filter .now) (a .p) ≡ true
-yes c = sym (c .before .is-usable .ensures) ∙ not-false (c .before .is-usable .result) (c .if1 .left)
+yes c = sym (c .before .resample .ensures .0) ∙ not-false (c .before .resample .result) (c .if1 .left)
 
 sizes : (c : tie.After-lengths-of) → Sized (c .lengths-of .result)
-sizes c = rw (c .lengths-of .ensures) (sized (c .before .before .before .before .before .before .before .args .n-ms))
-
-resample-requires : tie.Need-resample-requires
-resample-requires c κs =
-    let u = usable-facts _ _ (yes (c .before .before)) in
-    ((u .least, u .most, u .divides), (sizes (c .before) .new .0, u .long))
+sizes c = rw (c .lengths-of .ensures) (sized (c .before .before .before .before .before .before .before .before .args .n-ms))
 
 high-pass-requires : tie.Need-high-pass-requires
-high-pass-requires c κs = sizes (c .before .before .before) .new .0
+high-pass-requires c κs = sizes (c .before) .new .0
 
 returns-2 : tie.Need-returns-2
-unfolding made12p8 left12p8
+unfolding made12p8 left12p8 resampledInto
 returns-2 c =
-    let r = c .before .before in
-    let l = r .before .before in
-    let e = l .before in (
-      rw (yes e, c .high-pass .ensures .0, r .resample .ensures, l .lengths-of .ensures, past-in (e .before .before)),
-      rw (yes e, c .high-pass .ensures .1, r .resample .ensures, l .lengths-of .ensures, past-in (e .before .before)),
+    let l = c .before .before in
+    let e = l .before in
+    let r = e .before in (
+      rw (c .high-pass .ensures .0, r .resample .ensures .1, yes e, l .lengths-of .ensures, past-in (r .before .before)),
+      rw (c .high-pass .ensures .1, r .resample .ensures .1, yes e, l .lengths-of .ensures, past-in (r .before .before)),
     )
 
 pub at-12p8-spec : {M : Type 1} → statement M
@@ -60,6 +56,5 @@ at-12p8-spec =
     (λ c κs. search needs)
     returns
     (λ c κs. search needs)
-    resample-requires
     high-pass-requires
     returns-2)

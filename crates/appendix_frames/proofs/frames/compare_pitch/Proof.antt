@@ -1,4 +1,4 @@
--- `compare_pitch` goes by whether there is a pitch.
+-- `compare_pitch` goes by what is sent of the record.
 use mathlib.Core.Bool.{Bool, true, false, cond}
 use mathlib.Core.Path.{_≡_, refl}
 use mir.Val.{boolByte}
@@ -12,15 +12,18 @@ mark true = refl
 mark false = refl
 
 returns : tie.Need-returns
-returns c = rw (c .compare-numbers .ensures, c .before .enum-told .given .1)
+returns c = rw (c .compare-numbers .ensures, ← c .before .before .before .sent-of .ensures, c .before .enum-told .given .1)
 
 returns-2 : tie.Need-returns-2
-returns-2 c = rw (c .compare-numbers2 .ensures, c .before .before .before .before .pitch .given .1, mark)
+returns-2 c =
+    let known = c .before .before .before .before in
+    rw (c .compare-numbers2 .ensures, ← known .before .before .sent-of .ensures, known .found .given .1, mark)
 
 pub compare-pitch-spec : {M : Type 1} → statement M
 compare-pitch-spec =
     tie.close
     (tie.spec
+    (λ c κs. search needs)
     (λ c. search needs)
     (λ c κs. search needs)
     (λ c. search needs)

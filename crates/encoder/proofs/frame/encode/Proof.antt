@@ -9,9 +9,10 @@ use lib.Ieee.{Float, ofBits}
 use Rattle.rates.specs.Lengths.{lengthsOf}
 use Rattle.rates.specs.declared.config.Lc3Config.{Lc3Config}
 use Rattle.signals.specs.Straight.{laid}
-use Rattle.signals.specs.Signals.{atRate, at12p8, at6p4, usable, made12p8, left12p8}
+use Rattle.resampling.specs.Resample.{usable}
+use Rattle.signals.specs.Signals.{atRate, at12p8, at6p4, made12p8, left12p8}
 use Rattle.signals.specs.declared.highpass.HighPass.{HighPass}
-use Rattle.signals.proofs.Steps.{step-usable}
+use Rattle.resampling.proofs.Steps.{step-usable}
 use Rattle.search.specs.Pitch.{detected, lagWithin}
 use Rattle.search.specs.declared.pitch.Detected.{Detected}
 use Rattle.search.proofs.Pitches.{within-same}

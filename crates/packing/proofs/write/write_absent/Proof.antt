@@ -7,10 +7,10 @@ use borrow.Author.Tests.{lt-ltb}
 use lib.ListN.{length}
 use lib.Seq.{sets-eq}
 use Rattle.rates.specs.declared.answer.Answer.the-variants.{Done}
-use Rattle.lag.specs.declared.pitch.PitchRecord.the-variants.{Absent}
+use Rattle.lag.specs.declared.pitch.Sent.the-variants.{Absent}
 use Rattle.packing.specs.Bits.{bytesOf, valueOf}
 use Rattle.packing.specs.Form.{form}
-use Rattle.packing.specs.Writings.{writing}
+use Rattle.packing.specs.Writings.{sentWriting}
 use Rattle.packing.specs.declared.write.Writing.{Writing}
 use Rattle.packing.proofs.ByBytes.{written-over}
 use Rattle.packing.proofs.write.write_absent.Statement.{statement}
@@ -24,7 +24,7 @@ returns c =
     ∙ sym (written-over Absent (0 ∷ []) bytes refl refl (search needs))
 
 returns-2 : tie.Need-returns-2
-unfolding writing form bytesOf
+unfolding sentWriting form bytesOf
 returns-2 c = rw (c .refused .ensures, lt-ltb (length (c .before .before .before .args .bytes .now)) 1 (search needs))
 
 pub write-absent-spec : {M : Type 1} → statement M

@@ -7,21 +7,21 @@ use borrow.Author.Tests.{lt-ltb, le-ltb}
 use lib.ListN.{drop}
 use lib.Seq.{sets-eq}
 use Rattle.rates.specs.declared.answer.Answer.the-variants.{Done}
-use Rattle.lag.specs.declared.pitch.PitchRecord.the-variants.{Present}
+use Rattle.lag.specs.declared.pitch.Sent.the-variants.{Present}
 use Rattle.packing.specs.Bits.{bitsOf, bytesOf}
 use Rattle.packing.specs.Form.{form}
-use Rattle.packing.specs.Writings.{writing}
+use Rattle.packing.specs.Writings.{sentWriting}
 use Rattle.packing.specs.declared.write.Writing.{Writing}
 use Rattle.packing.proofs.ByBytes.{written-over}
 use Rattle.packing.proofs.write.write_present.Statement.{statement}
 use Rattle.packing.proofs.write.write_present.Tie as tie
 
 returns : tie.Need-returns
-unfolding writing
+unfolding sentWriting
 returns c = rw (c .refused .ensures, lt-ltb 511 (c .before .before .before .args .present .index) (c .before .if1 .taken))
 
 returns-2 : tie.Need-returns-2
-unfolding writing form bytesOf bitsOf
+unfolding sentWriting form bytesOf bitsOf
 returns-2 c = rw (c .refused2 .ensures, le-ltb 511 _ (c .before .before .if1 .left), lt-ltb _ _ (c .before .if2 .taken))
 
 returns-3 : tie.Need-returns-3

@@ -1,0 +1,2 @@
+-- The refusals of the encoder's calls.
+pub mod Refusals

@@ -1,0 +1,3 @@
+-- The resampler.
+pub mod Resample
+pub mod Rows
