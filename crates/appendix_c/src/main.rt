@@ -1,7 +1,11 @@
 // Runs the vectors of the standard's Appendix C through the encoder and the decoder, and prints for
 // each how many of its values were compared and how many are out of tolerance. The arguments name
 // the files; with none, standard input is read.
+mod cases;
+mod frames;
+mod past;
 mod run;
+mod tally;
 
 use libc::STDIN_FILENO;
 use libc::STDOUT_FILENO;

@@ -1,35 +1,39 @@
 // A run over one file of vectors.
-use appendix_cases::cases::compare_case;
-use appendix_frames::encoding::Encoding;
-use appendix_frames::encoding::begin;
-use appendix_frames::encoding::start_encoder;
-use appendix_frames::encoding::with_tally;
-use appendix_frames::frames::next_frame;
-use appendix_tally::tally::Tally;
-use vectors::read::read_bytes;
+use crate::cases::compare_case;
+use crate::frames::Encoding;
+use crate::frames::begin;
+use crate::frames::next_frame;
+use crate::frames::start_encoder;
+use crate::frames::stopped;
+use crate::frames::with_tally;
+use crate::tally::Tally;
+use vectors::read::read_number;
 
-// The kinds of records: a comment, the encoder's starts and frames, the decoder's cases, and the end.
-const COMMENT: u8 = b'#';
+// The kinds of records, by their letters: a comment, the encoder's starts and frames, the decoder's cases, and the end.
+const COMMENT: u32 = 0x23;
 
-const START: u8 = b'S';
+const START: u32 = 0x53;
 
-const FRAME: u8 = b'F';
+const FRAME: u32 = 0x46;
 
-const CASE: u8 = b'T';
+const CASE: u32 = 0x54;
 
-const END: u8 = b'E';
+const END: u32 = 0x45;
 
 // The most bytes that a comment has, with its newline.
 const LONGEST: usize = 1000;
 
+// A newline.
+const NEWLINE: u32 = 10;
+
 // Reads a comment to its newline.
 fn skip_comment(fd: i32, tally: Tally) -> Tally {
     for _ in 0..LONGEST {
-        let mut byte = [0u8; 1];
-        if !read_bytes(fd, &mut byte) {
+        let byte = read_number(fd, 1);
+        if !byte.whole {
             return tally.stop(b"a comment that is cut off");
         }
-        if byte[0] == b'\n' {
+        if byte.value == NEWLINE {
             return tally;
         }
     }
@@ -39,18 +43,18 @@ fn skip_comment(fd: i32, tally: Tally) -> Tally {
 // Takes one record of the file.
 fn step(fd: i32, encoding: Encoding) -> Encoding {
     let tally = encoding.tally;
-    let mut kind = [0u8; 1];
-    if !read_bytes(fd, &mut kind) {
-        return with_tally(encoding, tally.stop(b"the file ends without its end mark"));
+    let kind = read_number(fd, 1);
+    if !kind.whole {
+        return stopped(encoding, b"the file ends without its end mark");
     }
-    let letter = kind[0];
+    let letter = kind.value;
     match letter {
         COMMENT => with_tally(encoding, skip_comment(fd, tally)),
         START => start_encoder(fd, encoding),
         FRAME => next_frame(fd, encoding),
         CASE => with_tally(encoding, compare_case(fd, tally)),
         END => with_tally(encoding, tally.end()),
-        _ => with_tally(encoding, tally.stop(b"a record of an unknown kind")),
+        _ => stopped(encoding, b"a record of an unknown kind"),
     }
 }
 

@@ -1,15 +1,22 @@
 // Compares an end, or both ears of the decoder, with vector files: makes every call that a file lists, and
 // prints where an answer, a report, a sample or a pitch record differs from what the file says. The
 // arguments name an end and its files, and so on; an end that is named without a file reads standard input.
+mod both_ears;
+mod ear;
+mod encoding;
+mod one_ear;
+mod reports;
+mod run;
+mod set;
+mod state_parts;
+mod tally;
+mod walk;
+
 use libc::STDERR_FILENO;
 use libc::STDIN_FILENO;
 use libc::STDOUT_FILENO;
-
-enum End {
-    Decoder,
-    Encoder,
-    Ears,
-}
+use walk::End;
+use walk::compare;
 
 // What a word means: an end, or a file.
 enum Meant {
@@ -34,14 +41,6 @@ fn meaning(word: &[u8]) -> Meant {
         return Meant::End(End::Ears);
     }
     Meant::File
-}
-
-fn compare(end: End, fd: i32) {
-    match end {
-        End::Decoder => decoder_vectors::run::compare(fd),
-        End::Encoder => encoder_vectors::run::compare(fd),
-        End::Ears => ears_vectors::run::compare(fd),
-    }
 }
 
 fn compare_file(end: End, path: &[u8]) {

@@ -20,21 +20,38 @@ fn print_table(name: &[u8], table: &[f32]) -> bool {
     true
 }
 
-fn main() {
-    let _is_written = print_table(b"resampling", &published::RESAMPLING)
+// The tables of the encoder.
+fn print_encoder() -> bool {
+    print_table(b"resampling", &published::RESAMPLING)
         && print_table(
             b"correlation_interpolation",
             &published::CORRELATION_INTERPOLATION,
         )
         && print_table(b"signal_interpolation", &published::SIGNAL_INTERPOLATION)
-        && print_table(b"numerator_8000", &published::NUMERATOR_8000)
+}
+
+// The decoder's tables of the two lowest rates.
+fn print_low() -> bool {
+    print_table(b"numerator_8000", &published::NUMERATOR_8000)
         && print_table(b"denominator_8000", &published::DENOMINATOR_8000)
         && print_table(b"numerator_16000", &published::NUMERATOR_16000)
         && print_table(b"denominator_16000", &published::DENOMINATOR_16000)
-        && print_table(b"numerator_24000", &published::NUMERATOR_24000)
+}
+
+// Those of the next two.
+fn print_middle() -> bool {
+    print_table(b"numerator_24000", &published::NUMERATOR_24000)
         && print_table(b"denominator_24000", &published::DENOMINATOR_24000)
         && print_table(b"numerator_32000", &published::NUMERATOR_32000)
         && print_table(b"denominator_32000", &published::DENOMINATOR_32000)
-        && print_table(b"numerator_48000", &published::NUMERATOR_48000)
-        && print_table(b"denominator_48000", &published::DENOMINATOR_48000);
+}
+
+// Those of the highest.
+fn print_high() -> bool {
+    print_table(b"numerator_48000", &published::NUMERATOR_48000)
+        && print_table(b"denominator_48000", &published::DENOMINATOR_48000)
+}
+
+fn main() {
+    let _is_written = print_encoder() && print_low() && print_middle() && print_high();
 }

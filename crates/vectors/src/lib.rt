@@ -1,5 +1,4 @@
-// Vector files: the numbers that they hold, and the tally of a comparison with them.
-pub mod numbers;
+// Vector files: the numbers that they hold.
+mod numbers;
 pub mod part;
 pub mod read;
-pub mod tally;

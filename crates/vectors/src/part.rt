@@ -3,7 +3,7 @@ ghost use mathlib.Core.Path.{_≡_};
 ghost use lib.ListN.{take};
 
 // The first count of floats, or all where there are fewer.
-pub fn first(floats: &[f32; 512], count: usize) -> &[f32]
+pub fn first(floats: &[f32; 1024], count: usize) -> &[f32]
     ensures { λ r. ⌜ now r ≡ take count (now (floats .entry)) ⌝ }
 {
     let all: &[f32] = floats;
@@ -26,7 +26,7 @@ pub fn first_mut(floats: &mut [f32], count: usize) -> &mut [f32]
 }
 
 // The first count of samples, or all where there are fewer.
-pub fn first_signed(samples: &[i16; 512], count: usize) -> &[i16]
+pub fn first_signed(samples: &[i16; 1024], count: usize) -> &[i16]
     ensures { λ r. ⌜ now r ≡ take count (now (samples .entry)) ⌝ }
 {
     let whole: &[i16] = samples;

@@ -7,33 +7,56 @@ ghost use mathlib.Core.Bool.{true};
 ghost use mathlib.Core.Path.{_≡_};
 ghost use lib.ListN.{length};
 ghost use Rattle.vectors.specs.Numbers.{floatAt, signedAt};
-ghost use Rattle.vectors.specs.Parts.{filled, noFloats, FloatsRead, SamplesRead};
+ghost use Rattle.vectors.specs.Parts.{filled, noFloats, NumberRead, FloatsRead, SamplesRead};
 
 // The most numbers that a part may have.
-const MOST: usize = 512;
+const MOST: usize = 1024;
+
+pub struct Number {
+    pub whole: bool,
+    pub value: u32,
+}
 
 pub struct Floats {
     pub whole: bool,
-    pub values: [f32; 512],
+    pub values: [f32; 1024],
     pub count: usize,
 }
 
 pub struct Samples {
     pub whole: bool,
-    pub values: [i16; 512],
+    pub values: [i16; 1024],
     pub count: usize,
 }
 
 // Fills all of bytes, or answers that there were too few.
-pub fn read_bytes(fd: i32, bytes: &mut [u8]) -> bool
+fn read_bytes(fd: i32, bytes: &mut [u8]) -> bool
     ensures { λ r. ⌜ (length (now (bytes .entry)) ≡ 0 → r ≡ true) ⌝ }
 {
     io::read_full(fd, bytes) == bytes.len()
 }
 
+// Reads a number of so many bytes, at most four.
+pub fn read_number(fd: i32, width: usize) -> Number
+    ensures { λ r. ⌜ NumberRead width r ⌝ }
+{
+    let mut bytes = [0u8; 4];
+    if width > 4 {
+        return Number {
+            whole: false,
+            value: 0,
+        };
+    }
+    let whole = read_bytes(fd, &mut bytes[..width]);
+    Number {
+        whole,
+        value: of_four(bytes[0], bytes[1], bytes[2], bytes[3]),
+    }
+}
+
 // Stores the floats that bytes stand for.
 fn put_floats(bytes: &[u8; 4096], count: usize, values: &mut [f32])
-    requires { ⌜ (count ≤ 512) × (count ≤ length (now values)) ⌝ }
+    requires { ⌜ (count ≤ 1024) × (count ≤ length (now values)) ⌝ }
     ensures { λ _. ⌜ now (values .exit) ≡ filled (floatAt (now (bytes .entry))) count (now (values .entry)) ⌝ }
 {
     let mut i = 0;
@@ -48,7 +71,7 @@ fn put_floats(bytes: &[u8; 4096], count: usize, values: &mut [f32])
 pub fn none() -> Floats
     ensures { λ r. ⌜ r ≡ noFloats ⌝ }
 {
-    let values = [0.0; 512];
+    let values = [0.0; 1024];
     Floats {
         whole: false,
         values,
@@ -56,14 +79,14 @@ pub fn none() -> Floats
     }
 }
 
-// Reads count floats, at most 512.
+// Reads count floats, at most 1024.
 pub fn read_floats(fd: i32, count: usize) -> Floats
     ensures { λ r. ⌜ FloatsRead count r ⌝ }
 {
     if count > MOST {
         return none();
     }
-    let mut values = [0.0f32; 512];
+    let mut values = [0.0f32; 1024];
     let mut bytes = io::buffer();
     let size = 4 * count;
     let whole = read_bytes(fd, &mut bytes[..size]);
@@ -77,7 +100,7 @@ pub fn read_floats(fd: i32, count: usize) -> Floats
 
 // Stores the samples that bytes stand for.
 fn put_samples(bytes: &[u8; 4096], count: usize, values: &mut [i16])
-    requires { ⌜ (count ≤ 512) × (count ≤ length (now values)) ⌝ }
+    requires { ⌜ (count ≤ 1024) × (count ≤ length (now values)) ⌝ }
     ensures { λ _. ⌜ now (values .exit) ≡ filled (signedAt (now (bytes .entry))) count (now (values .entry)) ⌝ }
 {
     let mut i = 0;
@@ -88,11 +111,11 @@ fn put_samples(bytes: &[u8; 4096], count: usize, values: &mut [i16])
     }
 }
 
-// Reads count signed samples, at most 512.
+// Reads count signed samples, at most 1024.
 pub fn read_samples(fd: i32, count: usize) -> Samples
     ensures { λ r. ⌜ SamplesRead count r ⌝ }
 {
-    let mut values = [0i16; 512];
+    let mut values = [0i16; 1024];
     if count > MOST {
         return Samples {
             whole: false,

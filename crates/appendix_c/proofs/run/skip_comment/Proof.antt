@@ -13,11 +13,8 @@ abbrev μ-loop : tie.MeasureT-loop
 loop-holds : tie.Need-loop-holds Inv-loop μ-loop
 loop-holds c = search needs
 
-slice-aggregate-read-bytes : tie.Need-slice-aggregate-read-bytes Inv-loop μ-loop
-slice-aggregate-read-bytes c = search needs
-
-read-bytes-requires : tie.Need-read-bytes-requires Inv-loop μ-loop
-read-bytes-requires c κs = search needs
+read-number-requires : tie.Need-read-number-requires Inv-loop μ-loop
+read-number-requires c κs = search needs
 
 slice-aggregate-stop : tie.Need-slice-aggregate-stop Inv-loop μ-loop
 slice-aggregate-stop c = search needs
@@ -27,9 +24,6 @@ stop-requires c κs = search needs
 
 returns : tie.Need-returns Inv-loop μ-loop
 returns c = search needs
-
-array-read-if2 : tie.Need-array-read-if2 Inv-loop μ-loop
-array-read-if2 c = search needs
 
 returns-2 : tie.Need-returns-2 Inv-loop μ-loop
 returns-2 c = search needs
@@ -59,12 +53,10 @@ skip-comment-spec =
     Inv-loop
     μ-loop
     loop-holds
-    slice-aggregate-read-bytes
-    read-bytes-requires
+    read-number-requires
     slice-aggregate-stop
     stop-requires
     returns
-    array-read-if2
     returns-2
     add-counter
     loop-less

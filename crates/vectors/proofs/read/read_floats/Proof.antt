@@ -18,7 +18,7 @@ none-requires : tie.Need-none-requires
 none-requires c κs = search needs
 
 returns : tie.Need-returns
-returns c = record { bytes = []; whole = false; equal = rw (lt-leb (c .before .before .args .count) 512 (omega arith)) (c .none .ensures); nothing = λ e. absurd (omega arith) }
+returns c = record { bytes = []; whole = false; equal = rw (lt-leb (c .before .before .args .count) 1024 (omega arith)) (c .none .ensures); nothing = λ e. absurd (omega arith) }
 
 buffer-requires : tie.Need-buffer-requires
 buffer-requires c κs = search needs
@@ -42,8 +42,8 @@ put-floats-requires : tie.Need-put-floats-requires
 put-floats-requires c κs = search needs
 
 -- the numbers of some bytes, whole or not, are what is read
-read-of : (count : ℕ) (bytes : List ℕ) (whole : Bool) (values : List Float) → count ≤ 512 → values ≡ filled (floatAt bytes) count (replicate 512 (ofBits binary32 0)) → (count ≡ 0 → whole ≡ true) → FloatsRead count (record { whole = whole; values = values; count = count })
-read-of count bytes whole values h e nothing = record { bytes = bytes; whole = whole; equal = rw (le-leb count 512 h, e); nothing = nothing }
+read-of : (count : ℕ) (bytes : List ℕ) (whole : Bool) (values : List Float) → count ≤ 1024 → values ≡ filled (floatAt bytes) count (replicate 1024 (ofBits binary32 0)) → (count ≡ 0 → whole ≡ true) → FloatsRead count (record { whole = whole; values = values; count = count })
+read-of count bytes whole values h e nothing = record { bytes = bytes; whole = whole; equal = rw (le-leb count 1024 h, e); nothing = nothing }
 
 returns-2 : tie.Need-returns-2
 returns-2 c =

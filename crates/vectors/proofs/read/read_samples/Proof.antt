@@ -15,7 +15,7 @@ use Rattle.vectors.proofs.read.read_samples.Statement.{statement}
 use Rattle.vectors.proofs.read.read_samples.Tie as tie
 
 returns : tie.Need-returns
-returns c = record { bytes = []; whole = false; equal = rw (lt-leb (c .before .args .count) 512 (omega arith)); nothing = λ e. absurd (omega arith) }
+returns c = record { bytes = []; whole = false; equal = rw (lt-leb (c .before .args .count) 1024 (omega arith)); nothing = λ e. absurd (omega arith) }
 
 buffer-requires : tie.Need-buffer-requires
 buffer-requires c κs = search needs
@@ -39,8 +39,8 @@ put-samples-requires : tie.Need-put-samples-requires
 put-samples-requires c κs = search needs
 
 -- the numbers of some bytes, whole or not, are what is read
-read-of : (count : ℕ) (bytes : List ℕ) (whole : Bool) (values : List ℤ) → count ≤ 512 → values ≡ filled (signedAt bytes) count (replicate 512 (pos 0)) → (count ≡ 0 → whole ≡ true) → SamplesRead count (record { whole = whole; values = values; count = count })
-read-of count bytes whole values h e nothing = record { bytes = bytes; whole = whole; equal = rw (le-leb count 512 h, e); nothing = nothing }
+read-of : (count : ℕ) (bytes : List ℕ) (whole : Bool) (values : List ℤ) → count ≤ 1024 → values ≡ filled (signedAt bytes) count (replicate 1024 (pos 0)) → (count ≡ 0 → whole ≡ true) → SamplesRead count (record { whole = whole; values = values; count = count })
+read-of count bytes whole values h e nothing = record { bytes = bytes; whole = whole; equal = rw (le-leb count 1024 h, e); nothing = nothing }
 
 returns-2 : tie.Need-returns-2
 returns-2 c =

@@ -1,2 +1,0 @@
--- A case takes nothing from the tally.
-pub mod Grown

@@ -1,3 +1,0 @@
--- What the contracts of `appendix_cases` cite.
-pub mod Past
-pub mod Cases

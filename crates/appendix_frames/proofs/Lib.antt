@@ -1,2 +1,0 @@
--- A start and a frame take nothing from the tally.
-pub mod Grown

@@ -1,2 +1,0 @@
--- No step of a comparison takes anything from the tally.
-pub mod Grown

@@ -1,3 +1,0 @@
--- What the contracts of `decoder_vectors` cite.
-pub mod Steps
-pub mod Pitch

@@ -1,2 +1,0 @@
--- What the contracts of `encoder_vectors` cite.
-pub mod Steps

@@ -1,5 +1,0 @@
-// The encoder's vector files: each record is read, and each call is made and compared. Only this crate
-// knows how the encoder is called with what a vector file has.
-mod calls;
-pub mod run;
-pub mod set;
