@@ -1,14 +1,12 @@
 // The decoder's cases: for each the past is put into a decoder, a frame is decoded, and the filter and
 // the outputs are compared. All are at 16000 Hz and 10 ms, so a frame has 160 samples.
-use crate::past::Kept;
 use crate::past::decoder_after;
-use crate::past::kept_by;
 use crate::past::read_past;
 use crate::tally::Place;
 use crate::tally::Tally;
-use control::judge::SideInfo;
 use decoder::frame::frame;
 use decoder::state::Decoder;
+use judging::plan::SideInfo;
 use lag::pitch::PitchRecord;
 use lag::pitch::Present;
 use published::DENOMINATOR_16000;
@@ -39,7 +37,7 @@ pub struct Given {
 // What the frame's call gave: its answer, the filter that the decoder keeps, and the outputs.
 pub struct Made {
     pub answer: u64,
-    pub kept: Kept,
+    pub kept: [f32; 24],
     pub outputs: [f32; 1024],
 }
 
@@ -81,33 +79,27 @@ fn decode(before: Decoder, side: SideInfo, x: Floats) -> Made {
         first_mut(&mut outputs, x.count),
     );
     let answer = framed.answer;
+    let decoder = framed.decoder;
+    let kept = decoder.kept;
     Made {
         answer: number(answer),
-        kept: kept_by(framed.decoder),
+        kept,
         outputs,
     }
 }
 
-// Compares the filter that the decoder keeps: of a numerator the first three entries are published, of a
-// denominator the four after the first.
-fn compare_filter(
-    tally: Tally,
-    c_n: Floats,
-    c_d: Floats,
-    c_num: [f32; 11],
-    c_den: [f32; 13],
-) -> Tally {
-    let compared = tally.floats(b"c_n", c_n, &c_num, COEFFICIENT);
-    compared.floats(b"c_d", c_d, &c_den[1..], COEFFICIENT)
+// Compares the filter that the decoder keeps: of its 11 numerator entries the first three are published, of the 13
+// denominator entries after them the four after the first.
+fn compare_filter(tally: Tally, c_n: Floats, c_d: Floats, kept: [f32; 24]) -> Tally {
+    let compared = tally.floats(b"c_n", c_n, &kept, COEFFICIENT);
+    compared.floats(b"c_d", c_d, &kept[12..], COEFFICIENT)
 }
 
 // Compares all that is published of the frame.
 fn compare_all(tally: Tally, given: Given, made: Made) -> Tally {
-    let filter = made.kept;
-    let c_num = filter.c_num;
-    let c_den = filter.c_den;
+    let kept = made.kept;
     let outputs = made.outputs;
-    let compared = compare_filter(tally, given.c_n, given.c_d, c_num, c_den);
+    let compared = compare_filter(tally, given.c_n, given.c_d, kept);
     compared.floats(b"trans", given.trans, &outputs, OUTPUT)
 }
 

@@ -5,6 +5,8 @@ use encoder::frame::Framed;
 use encoder::state::Encoder;
 use encoder::state::start;
 use lag::pitch::PitchRecord;
+use lag::pitch::Sent;
+use lag::pitch::sent_of;
 use published::CORRELATION_INTERPOLATION;
 use published::RESAMPLING;
 use published::SIGNAL_INTERPOLATION;
@@ -50,7 +52,7 @@ pub struct Expected {
 }
 
 // A pitch record as it is published: the index and the active mark are 0 where there is no pitch.
-pub struct Sent {
+pub struct Numbers {
     pub present: u64,
     pub index: u64,
     pub active: u64,
@@ -145,14 +147,14 @@ fn encode(encoder: Encoder, given: Given) -> Framed {
     )
 }
 
-fn as_sent(pitch: PitchRecord) -> Sent {
-    match pitch {
-        PitchRecord::Absent => Sent {
+fn as_numbers(pitch: PitchRecord) -> Numbers {
+    match sent_of(pitch) {
+        Sent::Absent => Numbers {
             present: 0,
             index: 0,
             active: 0,
         },
-        PitchRecord::Present(found) => Sent {
+        Sent::Present(found) => Numbers {
             present: 1,
             index: found.index as u64,
             active: found.active as u64,
@@ -161,7 +163,7 @@ fn as_sent(pitch: PitchRecord) -> Sent {
 }
 
 // Compares the pitch record.
-fn compare_pitch(tally: Tally, expected: Expected, got: Sent) -> Tally {
+fn compare_pitch(tally: Tally, expected: Expected, got: Numbers) -> Tally {
     let one = tally.number(b"pitch_present", expected.present, got.present);
     let two = one.number(b"pitch_index", expected.index, got.index);
     two.number(b"ltpf_active", expected.active, got.active)
@@ -200,7 +202,7 @@ fn compare_correlation(tally: Tally, expected: Floats, encoder: Encoder) -> Tall
 fn compare_frame(tally: Tally, expected: Expected, encoder: Encoder, pitch: PitchRecord) -> Tally {
     let one = compare_signal(tally, expected.signal, encoder);
     let two = one.number(b"t_curr", expected.t_curr, encoder.t_prev as u64);
-    let three = compare_pitch(two, expected, as_sent(pitch));
+    let three = compare_pitch(two, expected, as_numbers(pitch));
     compare_correlation(three, expected.nc_ltpf, encoder)
 }
 

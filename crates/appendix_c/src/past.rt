@@ -1,11 +1,12 @@
 // The past of a case, and the decoder's state in its parts: what the frames before left, and what the
 // frame keeps. Nothing else in this program knows them.
-use control::registers::Registers;
+use control::marks::Marks;
 use decoder::state::Decoder;
 use lag::index::Unscaled;
 use lag::index::unscaled_lag;
 use lag::rescale::Lag;
 use lag::rescale::rescale;
+use on_ring::registers::Registers;
 use slices::put;
 use vectors::part::first;
 use vectors::read::Floats;
@@ -28,12 +29,6 @@ pub struct Past {
     pub c_d: Floats,
     pub x: Floats,
     pub prev: Floats,
-}
-
-// The filter that a decoder keeps.
-pub struct Kept {
-    pub c_num: [f32; 11],
-    pub c_den: [f32; 13],
 }
 
 pub(crate) fn read_past(fd: i32) -> Past {
@@ -62,30 +57,28 @@ fn lag_before(active: bool, index: u32) -> Lag {
     }
 }
 
-// The filter that the frame before left.
-fn filter_before(numerator: Floats, denominator: Floats) -> Kept {
+// The filter that the frame before left: 11 numerator coefficients, and 13 of the denominator after them.
+fn filter_before(numerator: Floats, denominator: Floats) -> [f32; 24] {
     let c_n = numerator.values;
     let c_d = denominator.values;
-    let mut c_num = [0.0; 11];
-    put(&mut c_num, 0, first(&c_n, 3));
-    let mut c_den = [0.0; 13];
-    put(&mut c_den, 1, first(&c_d, 4));
-    Kept { c_num, c_den }
+    let mut kept = [0.0; 24];
+    put(&mut kept, 0, first(&c_n, 3));
+    put(&mut kept, 12, first(&c_d, 4));
+    kept
 }
 
 // The registers as the frame before left them.
-fn registers_after(active: bool, lag: Lag, filter: Kept) -> Registers {
-    let c_num = filter.c_num;
-    let c_den = filter.c_den;
+fn registers_after(active: bool, lag: Lag) -> Registers {
     Registers {
-        rate: RATE,
-        duration: DURATION,
-        ltpf_active_prev: active,
-        c_num,
-        c_den,
-        lag,
-        run: 0,
-        settled: false,
+        marks: Marks {
+            rate: RATE,
+            duration: DURATION,
+            run: 0,
+            ltpf_active_prev: active,
+            settled: false,
+            lag,
+        },
+        block_start_index: 0,
     }
 }
 
@@ -101,19 +94,10 @@ fn ring(at: usize, part: Floats) -> [f32; 1080] {
 // the filter reaches back only two inputs.
 pub(crate) fn decoder_after(past: Past) -> Decoder {
     let lag = lag_before(past.active, past.index);
-    let filter = filter_before(past.c_n, past.c_d);
     Decoder {
-        registers: registers_after(past.active, lag, filter),
-        block_start_index: 0,
+        registers: registers_after(past.active, lag),
+        kept: filter_before(past.c_n, past.c_d),
         x_hat_mem: ring(160, past.x),
         x_hat_ltpf_mem: ring(0, past.prev),
     }
-}
-
-// The filter that the decoder keeps.
-pub(crate) fn kept_by(decoder: Decoder) -> Kept {
-    let registers = decoder.registers;
-    let c_num = registers.c_num;
-    let c_den = registers.c_den;
-    Kept { c_num, c_den }
 }

@@ -1,5 +1,4 @@
--- What the caller's arrays and numbers stand for: flags, a decoder's registers, a pitch, an encoder's state.
+-- What the caller's numbers stand for: flags, a decoder's registers, a pitch.
 pub mod Words
 pub mod Registers
 pub mod Pitch
-pub mod EncoderState

@@ -1,9 +1,11 @@
 // A frame's pitch as the caller's numbers: what a call is given, and what it gives.
 use crate::words::as_flag;
 use crate::words::is_yes;
-use control::judge::SideInfo;
+use judging::plan::SideInfo;
 use lag::pitch::PitchRecord;
 use lag::pitch::Present;
+use lag::pitch::Sent;
+use lag::pitch::sent_of;
 ghost use mathlib.Core.Path.{_≡_};
 ghost use Rattle.c_arrays.specs.Pitch.{pitchFrom, sideFrom, recordOf};
 
@@ -30,9 +32,9 @@ pub fn read_side(present: u32, index: u32, active: u32, nbits: u32) -> SideInfo
 pub fn write_record(record: &mut [u32; 4], pitch: PitchRecord, size: u32)
     ensures { λ _. ⌜ now («record» .exit) ≡ recordOf pitch size ⌝ }
 {
-    match pitch {
-        PitchRecord::Absent => *record = [0, 0, 0, size],
-        PitchRecord::Present(present) => {
+    match sent_of(pitch) {
+        Sent::Absent => *record = [0, 0, 0, size],
+        Sent::Present(present) => {
             let active = as_flag(present.active);
             *record = [1, present.index, active, size];
         }

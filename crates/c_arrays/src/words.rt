@@ -4,7 +4,7 @@ use rates::answer::number;
 ghost use mathlib.Core.Path.{_≡_};
 ghost use Prim.Native.Nat.{_<_, _^_};
 ghost use Rattle.rates.specs.Answers.{numberOf};
-ghost use Rattle.c_arrays.specs.Words.{isYes, asFlag};
+ghost use Rattle.c_arrays.specs.Words.{isYes, asFlag, narrowed};
 
 // 0 is no, anything else is yes.
 pub fn is_yes(word: u32) -> bool
@@ -32,4 +32,11 @@ pub fn wide(word: u32) -> usize
     ensures { λ r. ⌜ (r ≡ word) × (r < 2 ^ 32) ⌝ }
 {
     word as usize
+}
+
+// Its 32 bits, wherever no more are taken.
+pub fn narrow(number: usize) -> u32
+    ensures { λ r. ⌜ r ≡ narrowed number ⌝ }
+{
+    (number % 4294967296) as u32
 }

@@ -1,3 +1,3 @@
--- The coefficients of a frame, and what is asked of the lent set.
+-- The filter of a frame, and what is asked of the lent set.
 pub mod Coefficients
 pub mod Required

@@ -1,23 +1,13 @@
-// The coefficients of a frame, from the lent set, the gain and the quarter of the lag.
+// The coefficients of a frame's filter, from the lent set, the gain and the quarter of the lag.
 use lag::gain::Gain;
-use lag::rescale::Lag;
-use rates::table::Rate;
 ghost use mathlib.Core.Path.{_≡_};
 ghost use Prim.Native.Nat.{_*_, _≤_};
 ghost use mathlib.Core.List.{map, _++_};
 ghost use lib.ListN.{length, drop};
 ghost use Rattle.floats.specs.Single.{_⊗_};
-ghost use Rattle.coefficients.specs.Coefficients.{gainValue, gainRow, rowOfSet, tapsOf, noTaps, newTaps};
+ghost use Rattle.lag.specs.declared.rescale.Lag.{Lag};
+ghost use Rattle.coefficients.specs.Coefficients.{gainValue, gainRow, rowOfSet, filterOf, newFilter, laidOut};
 ghost use Rattle.coefficients.specs.Required.{Lent};
-
-// A filter: the order l_den, the coefficients, of which l_den − 1 and l_den + 1 are used and the
-// others are 0.0, and the lag.
-pub struct Taps {
-    pub l_den: usize,
-    pub c_num: [f32; 11],
-    pub c_den: [f32; 13],
-    pub lag: Lag,
-}
 
 // The row times a gain, put at the front of the coefficients.
 fn scale_row(c: &mut [f32], gain: f32, row: &[f32])
@@ -58,56 +48,42 @@ fn gain_row(gain: Gain) -> usize
     }
 }
 
-// The filter of an active frame: a row for the gain, and one for the quarter.
-fn active_filter(fs: Rate, gain: Gain, lag: Lag, numerators: &[f32], denominators: &[f32]) -> Taps
-    requires { ⌜ Lent fs (now numerators) (now denominators) × (gainRow gain ≤ 3) × (lag .quarter ≤ 3) ⌝ }
-    ensures { λ r. ⌜ r ≡ tapsOf fs gain lag (now (numerators .entry)) (now (denominators .entry)) ⌝ }
-{
-    let l_den = fs.l_den;
-    let value = gain_value(gain);
-    let mut c_num = [0.0; 11];
-    let num = row_of_set(numerators, l_den - 1, gain_row(gain));
-    scale_row(&mut c_num, 0.85 * value, num);
-    let mut c_den = [0.0; 13];
-    let den = row_of_set(denominators, l_den + 1, lag.quarter);
-    scale_row(&mut c_den, value, den);
-    Taps {
-        l_den,
-        c_num,
-        c_den,
-        lag,
-    }
-}
-
-// What an inactive frame keeps: no coefficients and no lag.
-fn no_filter(fs: Rate) -> Taps
-    ensures { λ r. ⌜ r ≡ noTaps fs ⌝ }
-{
-    Taps {
-        l_den: fs.l_den,
-        c_num: [0.0; 11],
-        c_den: [0.0; 13],
-        lag: Lag {
-            whole: 0,
-            quarter: 0,
-        },
-    }
-}
-
-// The filter of a frame, by whether it is active, and by its gain and its lag.
-pub fn compute_filter_coeffs(
-    fs: Rate,
-    active: bool,
+// The coefficients of an active frame: a row for the gain, and one for the quarter.
+fn active_filter(
+    l_den: usize,
     gain: Gain,
-    lag: Lag,
+    quarter: usize,
     numerators: &[f32],
     denominators: &[f32],
-) -> Taps
-    requires { ⌜ Lent fs (now numerators) (now denominators) × (gainRow gain ≤ 3) × (lag .quarter ≤ 3) ⌝ }
-    ensures { λ r. ⌜ r ≡ newTaps fs active gain lag (now (numerators .entry)) (now (denominators .entry)) ⌝ }
+) -> [f32; 24]
+    requires { ⌜ Lent «l_den» (now numerators) (now denominators) × (gainRow gain ≤ 3) × (quarter ≤ 3) ⌝ }
+    ensures { λ r. ⌜ ((lag : Lag) → lag .quarter ≡ quarter → r ≡ laidOut (filterOf «l_den» gain lag (now (numerators .entry)) (now (denominators .entry)))) ⌝ }
+{
+    let value = gain_value(gain);
+    let mut c = [0.0; 24];
+    let num = row_of_set(numerators, l_den - 1, gain_row(gain));
+    scale_row(&mut c[..11], 0.85 * value, num);
+    let den = row_of_set(denominators, l_den + 1, quarter);
+    scale_row(&mut c[11..], value, den);
+    c
+}
+
+// The coefficients of a frame's filter, by whether it is active, and by its gain and its lag, of which
+// only the quarter is read: 11 of the numerator, then 13 of the denominator. Of these l_den − 1 and
+// l_den + 1 are used and the others are 0.0. An inactive frame has no filter: all are 0.0.
+pub fn compute_filter_coeffs(
+    l_den: usize,
+    active: bool,
+    gain: Gain,
+    quarter: usize,
+    numerators: &[f32],
+    denominators: &[f32],
+) -> [f32; 24]
+    requires { ⌜ Lent «l_den» (now numerators) (now denominators) × (gainRow gain ≤ 3) × (quarter ≤ 3) ⌝ }
+    ensures { λ r. ⌜ ((lag : Lag) → lag .quarter ≡ quarter → r ≡ laidOut (newFilter «l_den» active gain lag (now (numerators .entry)) (now (denominators .entry)))) ⌝ }
 {
     if active {
-        return active_filter(fs, gain, lag, numerators, denominators);
+        return active_filter(l_den, gain, quarter, numerators, denominators);
     }
-    no_filter(fs)
+    [0.0; 24]
 }

@@ -87,12 +87,16 @@ fn compare_both(tally: Tally, given: Given, framed: BothFramed) -> Tally {
     let left_answer = left.answer;
     let right_answer = right.answer;
     let one = tally.number(b"left answer", left_expected.answer, number(left_answer));
-    let two = one.number(b"left settled", left_expected.settled, left.settled as u64);
+    let two = one.number(
+        b"left settled",
+        left_expected.settled,
+        left.registers.marks.settled as u64,
+    );
     let three = two.number(b"right answer", right_expected.answer, number(right_answer));
     three.number(
         b"right settled",
         right_expected.settled,
-        right.settled as u64,
+        right.registers.marks.settled as u64,
     )
 }
 

@@ -7,6 +7,8 @@ use encoder::frame::Framed;
 use encoder::state::Encoder;
 use encoder::state::start;
 use lag::pitch::PitchRecord;
+use lag::pitch::Sent;
+use lag::pitch::sent_of;
 use rates::answer::number;
 use vectors::part::first;
 use vectors::part::first_signed;
@@ -32,7 +34,7 @@ pub struct Expected {
 }
 
 // A pitch record as a vector file has it: the index and the active mark are 0 where there is no pitch.
-pub struct Sent {
+pub struct Numbers {
     pub present: u64,
     pub index: u64,
     pub active: u64,
@@ -66,14 +68,14 @@ pub(crate) fn call_start(fd: i32, run: Run) -> Run {
     )
 }
 
-fn as_sent(pitch: PitchRecord) -> Sent {
-    match pitch {
-        PitchRecord::Absent => Sent {
+fn as_numbers(pitch: PitchRecord) -> Numbers {
+    match sent_of(pitch) {
+        Sent::Absent => Numbers {
             present: 0,
             index: 0,
             active: 0,
         },
-        PitchRecord::Present(found) => Sent {
+        Sent::Present(found) => Numbers {
             present: 1,
             index: found.index as u64,
             active: found.active as u64,
@@ -82,7 +84,7 @@ fn as_sent(pitch: PitchRecord) -> Sent {
 }
 
 // Compares a pitch record.
-fn compare_pitch(tally: Tally, expected: Expected, got: Sent) -> Tally {
+fn compare_pitch(tally: Tally, expected: Expected, got: Numbers) -> Tally {
     let one = tally.number(b"pitch", expected.present, got.present);
     let two = one.number(b"index", expected.index, got.index);
     two.number(b"active", expected.active, got.active)
@@ -96,7 +98,7 @@ fn compare_frame(run: Run, expected: Expected, framed: Framed) -> Run {
     let tally = run.tally;
     let counted = tally.frame();
     let answered = counted.number(b"answer", expected.answer, number(answer));
-    let compared = compare_pitch(answered, expected, as_sent(pitch));
+    let compared = compare_pitch(answered, expected, as_numbers(pitch));
     let bits = framed.nbits_ltpf as u64;
     after(
         run,

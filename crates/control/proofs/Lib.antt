@@ -1,9 +1,8 @@
--- Laws of a call without its samples, for this crate's proofs and for what is built above it.
+-- Laws of the marks, for this crate's proofs and for what is built above it.
 pub mod Tested
 pub mod Sizes
 pub mod Fit
-pub mod Judging
 pub mod StaysFit
 pub mod Reaching
 pub mod LeastLimit
-pub mod Marks
+pub mod MarksAfter

@@ -1,7 +1,5 @@
 -- How far back the filters of a rate read: one law over the table of rates.
 use Prim.Native.Nat.{ℕ, _+_, _-_, _*_, _/_, _≤_}
-use mathlib.Core.Path.{_≡_}
-use mathlib.Core.Bool.{true}
 use native.Mathlib.Omega.{arith}
 use Rattle.rates.specs.Configs.{frameOf}
 use Rattle.rates.specs.declared.table.Rate.{Rate}
@@ -10,26 +8,15 @@ use Rattle.rates.specs.declared.duration.FrameDuration.the-variants.{TenMs, Sev
 use Rattle.rates.specs.declared.config.Lc3Config.{Lc3Config}
 use Rattle.rates.proofs.Rows.{bound-at}
 use Rattle.lag.specs.Lag.{rescaled}
-use Rattle.lag.proofs.Reach.{shortest-lag, longest-lag}
-use Rattle.filter.specs.Required.{Inside}
-use Rattle.control.specs.State.{lagFits, settledLimit}
-use Rattle.coefficients.specs.declared.Taps.{Taps}
-use Rattle.control.proofs.Sizes.{FromTable, sized}
-use Rattle.control.proofs.Fit.{lag-within}
+use Rattle.lag.proofs.Reach.{longest-lag}
+use Rattle.control.specs.State.{settledLimit}
+use Rattle.control.proofs.Sizes.{FromTable}
 
 -- the largest whole lag of a rate, and the taps beyond it
 abbrev pub reach : Rate → ℕ
 reach fs = rescaled (fs .r) 912 / 4 + fs .«l_den» - fs .«l_den» / 2
 
 module _ (c : Lc3Config) (k : FromTable c) where
-  -- no filter reads further than that
-  pub inside-reach : (t : Taps) → t .«l_den» ≡ c .fs .«l_den» → lagFits (c .fs) true (t .lag) ≡ true → Inside t (reach (c .fs))
-  inside-reach t e h =
-      let w = lag-within (c .fs) (t .lag) h in
-      let s = sized c k in
-      let near = shortest-lag (k .0) (c .fs) (k .1 .row) in
-      record { least = omega arith; most = omega arith; inputs = omega arith; oldest = omega arith; newest = omega arith }
-
   -- the history holds it
   pub reach-within : reach (c .fs) ≤ c .history
   reach-within = omega (arith, longest-lag (k .0) (c .fs) (k .1 .row) (c .«n_ms»), k .1 .past)

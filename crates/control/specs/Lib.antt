@@ -1,6 +1,3 @@
--- A call without its samples, in the scope's order: what a pitch record asks for, the registers and which are fit, the verdict on a frame,
--- and the registers after it.
-pub mod Pitch
+-- What a decoder remembers as a few numbers, in the scope's order: the marks and which are fit, and the marks after a frame.
 pub mod State
-pub mod Judge
 pub mod Next

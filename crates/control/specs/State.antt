@@ -1,9 +1,7 @@
--- The registers: what a decoder remembers beside its samples, which of them are fit, and how a run of inactive frames settles.
+-- The marks: what a decoder remembers as a few numbers, which of them are fit, and how a run of inactive frames settles.
 use Prim.Native.Nat.{ℕ, _+_, min}
 use mathlib.Core.Bool.{Bool, true, false, cond, not, _&&_, _||_}
 use lib.Dec.{leb, ltb, eqb}
-use lib.ListN.{replicate}
-use Rattle.floats.specs.Single.{0·0}
 use Rattle.rates.specs.Configs.{configOf}
 use Rattle.rates.specs.declared.answer.Answer.the-variants.{UnfitState}
 use Rattle.rates.specs.declared.table.Rate.{Rate}
@@ -14,20 +12,21 @@ use Rattle.rates.specs.declared.config.Configured.{Configured}
 use Rattle.rates.specs.declared.config.Configured.the-variants.{Config, Refused}
 use Rattle.lag.specs.Lag.{quarters, lagOf}
 use Rattle.lag.specs.declared.rescale.Lag.{Lag}
-use Rattle.control.specs.Pitch.{noLag}
-use Rattle.control.specs.declared.registers.Registers.{Registers}
+use Rattle.control.specs.declared.marks.Marks.{Marks}
 
--- the registers of a start: inactive, no filter, an empty run, not settled
-unfoldable pub clearedRegisters : ℕ → ℕ → Registers
-clearedRegisters rate duration = record {
+-- the lag of an inactive frame
+abbrev pub noLag : Lag
+noLag = record { whole = 0; quarter = 0 }
+
+-- the marks of a start: inactive, no lag, an empty run, not settled
+unfoldable pub clearedMarks : ℕ → ℕ → Marks
+clearedMarks rate duration = record {
   rate = rate;
   duration = duration;
-  «ltpf_active_prev» = false;
-  «c_num» = replicate 11 0·0;
-  «c_den» = replicate 13 0·0;
-  lag = noLag;
   run = 0;
+  «ltpf_active_prev» = false;
   settled = false;
+  lag = noLag;
 }
 
 -- the run's limit
@@ -47,17 +46,17 @@ runFits d active run settled =
     not (active && ltb 0 run) && not (ltb (settledLimit d) run) && not (eqb run (settledLimit d) && not settled)
 
 -- fit: none of the things that the scope lists as unfit
-abbrev pub fit : Lc3Config → Registers → Bool
-fit c r = lagFits (c .fs) (r .«ltpf_active_prev») (r .lag) && runFits (c .«n_ms») (r .«ltpf_active_prev») (r .run) (r .settled)
+abbrev pub fit : Lc3Config → Marks → Bool
+fit c m = lagFits (c .fs) (m .«ltpf_active_prev») (m .lag) && runFits (c .«n_ms») (m .«ltpf_active_prev») (m .run) (m .settled)
 
 -- an unknown rate or duration is unfit too
-abbrev pub fitWith : Registers → Configured → Configured
-fitWith r (Refused a) = Refused UnfitState
-fitWith r (Config c) = cond (fit c r) (Config c) (Refused UnfitState)
+abbrev pub fitWith : Marks → Configured → Configured
+fitWith m (Refused a) = Refused UnfitState
+fitWith m (Config c) = cond (fit c m) (Config c) (Refused UnfitState)
 
--- the configuration of fit registers; unfit ones are refused with 9
-abbrev pub fitConfig : Registers → Configured
-fitConfig r = fitWith r (configOf (r .rate) (r .duration))
+-- the configuration of fit marks; unfit ones are refused with 9
+abbrev pub fitConfig : Marks → Configured
+fitConfig m = fitWith m (configOf (m .rate) (m .duration))
 
 -- the run after a frame: an active frame zeroes it, an inactive one counts, up to the limit
 abbrev pub runAfter : FrameDuration → Bool → ℕ → ℕ

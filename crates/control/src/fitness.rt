@@ -1,5 +1,5 @@
-// Which registers are fit: those that a start and frames can have led to, and some more.
-use crate::registers::Registers;
+// Which marks are fit: those that a start and frames can have led to, and some more.
+use crate::marks::Marks;
 use lag::rescale::Lag;
 use lag::rescale::rescale;
 use rates::answer::Answer;
@@ -9,7 +9,7 @@ use rates::config::config;
 use rates::duration::FrameDuration;
 use rates::table::Rate;
 ghost use mathlib.Core.Path.{_≡_};
-ghost use Rattle.control.specs.State.{settledLimit, lagFits, runFits, fitWith, fitConfig};
+ghost use Rattle.control.specs.State.{settledLimit, lagFits, runFits, fit, fitConfig};
 
 // How many inactive frames in a row settle a decoder.
 pub(crate) fn settled_limit(n_ms: FrameDuration) -> u32
@@ -56,30 +56,29 @@ fn run_fits(n_ms: FrameDuration, active: bool, run: u32, settled: bool) -> bool
     false
 }
 
-// The configuration of fit registers, where that of their names is found already. Unfit ones are refused.
-pub fn fit_as(registers: Registers, named: Configured) -> Configured
-    ensures { λ r. ⌜ r ≡ fitWith registers named ⌝ }
+// Whether marks fit the configuration that they name.
+pub fn fits(marks: Marks, config: Lc3Config) -> bool
+    ensures { λ r. ⌜ r ≡ fit config marks ⌝ }
 {
-    let Configured::Config(config) = named else {
-        return Configured::Refused(Answer::UnfitState);
-    };
+    let active = marks.ltpf_active_prev;
+    let lag = marks.lag;
     let fs = config.fs;
     let n_ms = config.n_ms;
-    let active = registers.ltpf_active_prev;
-    let lag = registers.lag;
     if !lag_fits(fs, active, lag) {
-        return Configured::Refused(Answer::UnfitState);
+        return false;
     }
-    if !run_fits(n_ms, active, registers.run, registers.settled) {
-        return Configured::Refused(Answer::UnfitState);
-    }
-    Configured::Config(config)
+    run_fits(n_ms, active, marks.run, marks.settled)
 }
 
-// The configuration of fit registers.
-pub fn fit_config(registers: Registers) -> Configured
-    ensures { λ r. ⌜ r ≡ fitConfig registers ⌝ }
+// The configuration of fit marks. Unfit ones are refused.
+pub fn fit_config(marks: Marks) -> Configured
+    ensures { λ r. ⌜ r ≡ fitConfig marks ⌝ }
 {
-    let named = config(registers.rate, registers.duration);
-    fit_as(registers, named)
+    let Configured::Config(found) = config(marks.rate, marks.duration) else {
+        return Configured::Refused(Answer::UnfitState);
+    };
+    if !fits(marks, found) {
+        return Configured::Refused(Answer::UnfitState);
+    }
+    Configured::Config(found)
 }

@@ -1,8 +1,4 @@
-// A call without its samples: the registers of a decoder and their fitness, the verdict on a frame, and the registers
-// after it.
+// What a decoder remembers as a few numbers: the marks, their fitness, and the marks after a frame.
 pub mod fitness;
-pub mod judge;
-pub mod lent;
+pub mod marks;
 pub mod next;
-mod pitch;
-pub mod registers;

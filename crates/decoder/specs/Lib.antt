@@ -2,4 +2,3 @@
 pub mod State
 pub mod Frame
 pub mod InPlace
-pub mod Required

@@ -1,17 +1,17 @@
 // One frame, and the mark of a lost one.
-use crate::fitness::fit_ring;
-use crate::plan::carry_out;
+use crate::carry::carry_out;
 use crate::state::Decoder;
-use control::judge::SideInfo;
-use control::judge::Verdict;
-use control::judge::judge;
 use control::next::unsettle;
-use control::registers::Registers;
+use judging::judge::judge;
+use judging::plan::SideInfo;
+use judging::plan::Verdict;
+use on_ring::registers::Registers;
+use on_ring::registers::fit_ring;
 use rates::answer::Answer;
 use rates::config::Configured;
 ghost use mathlib.Core.Path.{_≡_};
 ghost use Rattle.decoder.specs.Frame.{framed, lostFrom};
-ghost use Rattle.decoder.specs.InPlace.{refusedAs, framedInPlace, lostInPlace};
+ghost use Rattle.decoder.specs.InPlace.{framedInPlace, lostInPlace};
 
 // What a call gives back: its answer, the settled report and the state.
 pub struct Framed {
@@ -20,33 +20,18 @@ pub struct Framed {
     pub decoder: Decoder,
 }
 
-// What a call on lent rings gives back: all that but the rings.
+// What a call on lent arrays gives back beside them: its answer, and the registers, which hold the settled report.
 pub struct FramedInPlace {
     pub answer: Answer,
-    pub settled: bool,
     pub registers: Registers,
-    pub block_start_index: usize,
 }
 
-// A refused call: the same state, and its settled report.
-pub fn refused(answer: Answer, registers: Registers, block_start_index: usize) -> FramedInPlace
-    ensures { λ r. ⌜ r ≡ refusedAs answer registers «block_start_index» ⌝ }
-{
-    let settled = registers.settled;
-    FramedInPlace {
-        answer,
-        settled,
-        registers,
-        block_start_index,
-    }
-}
-
-// Decodes one frame of a decoder whose rings are lent, which spares copying them: filters its samples
+// Decodes one frame of a decoder whose coefficients and rings are lent, which spares copying them: filters its samples
 // in place, with the lent rows of the decoder's rate, as the side information says. Everything that can
-// refuse it is tested first.
+// refuse it is tested first, and nothing is read before what comes before it is tested.
 pub fn frame_in_place(
     registers: Registers,
-    block_start_index: usize,
+    kept: &mut [f32; 24],
     x_hat_mem: &mut [f32; 1080],
     x_hat_ltpf_mem: &mut [f32; 1080],
     numerators: &[f32],
@@ -54,21 +39,28 @@ pub fn frame_in_place(
     side: SideInfo,
     samples: &mut [f32],
 ) -> FramedInPlace
-    ensures { λ r. ⌜ (r, now («x_hat_mem» .exit), now («x_hat_ltpf_mem» .exit), now (samples .exit)) ≡ framedInPlace registers «block_start_index» (now («x_hat_mem» .entry)) (now («x_hat_ltpf_mem» .entry)) (now (numerators .entry)) (now (denominators .entry)) side (now (samples .entry)) ⌝ }
+    ensures { λ r. ⌜ (r, now (kept .exit), now («x_hat_mem» .exit), now («x_hat_ltpf_mem» .exit), now (samples .exit)) ≡ framedInPlace registers (now (kept .entry)) (now («x_hat_mem» .entry)) (now («x_hat_ltpf_mem» .entry)) (now (numerators .entry)) (now (denominators .entry)) side (now (samples .entry)) ⌝ }
 {
-    let fitted = fit_ring(registers, block_start_index);
-    match judge(registers, fitted, numerators, denominators, side, samples) {
-        Verdict::Refused(answer) => refused(answer, registers, block_start_index),
-        Verdict::Accepted(plan) => carry_out(
-            registers,
-            block_start_index,
-            x_hat_mem,
-            x_hat_ltpf_mem,
-            plan,
-            numerators,
-            denominators,
-            samples,
-        ),
+    let config = match fit_ring(registers) {
+        Configured::Config(config) => config,
+        Configured::Refused(answer) => return FramedInPlace { answer, registers },
+    };
+    let marks = registers.marks;
+    match judge(marks, config, numerators, denominators, side, samples) {
+        Verdict::Refused(answer) => FramedInPlace { answer, registers },
+        Verdict::Accepted(plan) => FramedInPlace {
+            answer: Answer::Done,
+            registers: carry_out(
+                registers,
+                plan,
+                kept,
+                x_hat_mem,
+                x_hat_ltpf_mem,
+                numerators,
+                denominators,
+                samples,
+            ),
+        },
     }
 }
 
@@ -83,11 +75,12 @@ pub fn frame(
     ensures { λ r. ⌜ (r, now (samples .exit)) ≡ framed decoder (now (numerators .entry)) (now (denominators .entry)) side (now (samples .entry)) ⌝ }
 {
     let registers = decoder.registers;
+    let mut kept = decoder.kept;
     let mut x_hat_mem = decoder.x_hat_mem;
     let mut x_hat_ltpf_mem = decoder.x_hat_ltpf_mem;
     let framed = frame_in_place(
         registers,
-        decoder.block_start_index,
+        &mut kept,
         &mut x_hat_mem,
         &mut x_hat_ltpf_mem,
         numerators,
@@ -99,27 +92,29 @@ pub fn frame(
     let next = framed.registers;
     Framed {
         answer,
-        settled: framed.settled,
+        settled: next.marks.settled,
         decoder: Decoder {
             registers: next,
-            block_start_index: framed.block_start_index,
+            kept,
             x_hat_mem,
             x_hat_ltpf_mem,
         },
     }
 }
 
-// Marks a frame as lost in a decoder whose rings are elsewhere: they are not needed.
-pub fn lost_in_place(registers: Registers, block_start_index: usize) -> FramedInPlace
-    ensures { λ r. ⌜ r ≡ lostInPlace registers «block_start_index» ⌝ }
+// Marks a frame as lost in a decoder whose arrays are elsewhere: they are not needed.
+pub fn lost_in_place(registers: Registers) -> FramedInPlace
+    ensures { λ r. ⌜ r ≡ lostInPlace registers ⌝ }
 {
-    match fit_ring(registers, block_start_index) {
-        Configured::Refused(answer) => refused(answer, registers, block_start_index),
+    let marks = registers.marks;
+    match fit_ring(registers) {
+        Configured::Refused(answer) => FramedInPlace { answer, registers },
         Configured::Config(_) => FramedInPlace {
             answer: Answer::Done,
-            settled: false,
-            registers: unsettle(registers),
-            block_start_index,
+            registers: Registers {
+                marks: unsettle(marks),
+                block_start_index: registers.block_start_index,
+            },
         },
     }
 }
@@ -128,18 +123,19 @@ pub fn lost_in_place(registers: Registers, block_start_index: usize) -> FramedIn
 pub fn lost(decoder: Decoder) -> Framed
     ensures { λ r. ⌜ r ≡ lostFrom decoder ⌝ }
 {
+    let kept = decoder.kept;
     let x_hat_mem = decoder.x_hat_mem;
     let x_hat_ltpf_mem = decoder.x_hat_ltpf_mem;
     let registers = decoder.registers;
-    let marked = lost_in_place(registers, decoder.block_start_index);
+    let marked = lost_in_place(registers);
     let answer = marked.answer;
     let next = marked.registers;
     Framed {
         answer,
-        settled: marked.settled,
+        settled: next.marks.settled,
         decoder: Decoder {
             registers: next,
-            block_start_index: marked.block_start_index,
+            kept,
             x_hat_mem,
             x_hat_ltpf_mem,
         },

@@ -1,5 +1,4 @@
 // The decoder of the long-term post filter on a ring: state, start, frame and loss mark.
-pub mod fitness;
+mod carry;
 pub mod frame;
-pub mod plan;
 pub mod state;

@@ -1,16 +1,17 @@
 // The decoder's state, and its start.
-use control::registers::Registers;
-use control::registers::clear;
+use control::marks::clear;
+use on_ring::registers::Registers;
 use rates::answer::Answer;
 use rates::config::Configured;
 use rates::config::config;
 ghost use mathlib.Core.Path.{_≡_};
 ghost use Rattle.decoder.specs.State.{cleared, started};
 
-// The registers; the rings of past inputs and outputs, with the start of the next block.
+// The registers; the previous frame's coefficients, 11 of the numerator and 13 of the denominator; and the rings of past
+// inputs and outputs.
 pub struct Decoder {
     pub registers: Registers,
-    pub block_start_index: usize,
+    pub kept: [f32; 24],
     pub x_hat_mem: [f32; 1080],
     pub x_hat_ltpf_mem: [f32; 1080],
 }
@@ -24,12 +25,16 @@ pub struct Started {
 fn cleared(rate: u32, duration: u32) -> Decoder
     ensures { λ d. ⌜ d ≡ cleared rate duration ⌝ }
 {
-    let registers = clear(rate, duration);
+    let registers = Registers {
+        marks: clear(rate, duration),
+        block_start_index: 0,
+    };
+    let kept = [0.0; 24];
     let x_hat_mem = [0.0; 1080];
     let x_hat_ltpf_mem = [0.0; 1080];
     Decoder {
         registers,
-        block_start_index: 0,
+        kept,
         x_hat_mem,
         x_hat_ltpf_mem,
     }

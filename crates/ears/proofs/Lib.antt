@@ -1,5 +1,3 @@
--- Laws of the buffer of both ears, for the proofs of this crate and for what is built above it.
-pub mod Buffers
-pub mod Ranges
-pub mod Verdicts
-pub mod Carried
+-- Laws of the steps of both ears, for the proofs of this crate and for what is built above it.
+pub mod Steps
+pub mod Aside

@@ -1,5 +1,5 @@
--- Both ears: the buffer, the call, and the call on states taken apart.
-pub mod Turns
+-- Both ears: the call, and the call on states taken apart; then what the functions of this crate promise each other, and ask.
 pub mod Both
 pub mod InPlace
+pub mod Carry
 pub mod Required

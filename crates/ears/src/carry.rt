@@ -1,139 +1,169 @@
-// Frames whose verdicts are plans: the samples of an ear taken up from the buffer into its ring of inputs, filtered
-// there, and its outputs handed back.
-use crate::buffer::join;
-use crate::buffer::part;
-use crate::frame::BothFramed;
-use crate::frame::Ear;
-use control::judge::Plan;
+// What the verdicts say, in three steps: the samples of each accepted ear are taken up from the buffer into its ring of
+// inputs, each ear is filtered between its rings, and its outputs are handed back.
 use decoder::frame::FramedInPlace;
-use decoder::plan::carry_block;
+use ears_judging::ear::Ear;
 use filter::transition::Transition;
+use interleave::deinterleave;
+use interleave::interleave;
+use judging::plan::Verdict;
+use on_ring::planned::filter_planned;
+use on_ring::registers::move_on;
+use rates::answer::Answer;
 ghost use mathlib.Core.Path.{_≡_};
-ghost use mathlib.Core.Bool.{true};
-ghost use lib.ListN.{length};
+ghost use Prim.Native.Nat.{_+_, _*_, _≤_};
+ghost use lib.ListN.{length, take, drop};
+ghost use mathlib.Core.Bool.{false};
 ghost use Rattle.filter.specs.declared.transition.Transition.the-variants.{Inactive};
-ghost use Rattle.rings.specs.Samples.{blockAt};
-ghost use Rattle.decoder.specs.Frame.{accepted, done};
-ghost use Rattle.decoder.specs.InPlace.{carriedBlock};
-ghost use Rattle.decoder.specs.Required.{Judged};
-ghost use Rattle.ears.specs.Turns.{lefts, rights};
-ghost use Rattle.ears.specs.Both.{bothOf};
-ghost use Rattle.ears.specs.InPlace.{stateOf, bothApart, leftApart, rightApart};
-ghost use Rattle.ears.specs.Required.{Ready};
+ghost use Rattle.judging.specs.declared.plan.Plan.{Plan};
+ghost use Rattle.judging.specs.declared.plan.Verdict.the-variants.{Accepted};
+ghost use Rattle.interleave.specs.Turns.{lefts, rights, inTurn};
+ghost use Rattle.ears.specs.Carry.{takenUp, stepped, handed};
+ghost use Rattle.ears.specs.Required.{Room, Whole, Steppable, Still};
 
-// An ear's frame, which stands in its ring of inputs already.
-fn carry_ear(
+// Takes the samples of the accepted ears up. One pass takes both; where one ear is refused, its samples go nowhere.
+pub(crate) fn take_up(
+    left: Verdict,
+    left_start: usize,
+    left_inputs: &mut [f32; 1080],
+    right: Verdict,
+    right_start: usize,
+    right_inputs: &mut [f32; 1080],
+    samples: &[f32],
+)
+    requires { ⌜ Room left «left_start» (now samples) × Room right «right_start» (now samples) ⌝ }
+    ensures { λ _. ⌜ (now («left_inputs» .exit) ≡ takenUp left «left_start» (lefts (now (samples .entry))) (now («left_inputs» .entry))) × (now («right_inputs» .exit) ≡ takenUp right «right_start» (rights (now (samples .entry))) (now («right_inputs» .entry))) × Whole left (now («left_inputs» .entry)) × Whole right (now («right_inputs» .entry)) ⌝ }
+{
+    let nf = samples.len() / 2;
+    match left {
+        Verdict::Accepted(_) => match right {
+            Verdict::Accepted(_) => deinterleave(
+                samples,
+                nf,
+                left_inputs,
+                left_start,
+                right_inputs,
+                right_start,
+            ),
+            Verdict::Refused(_) => {
+                let mut nowhere = [0.0; 480];
+                deinterleave(samples, nf, left_inputs, left_start, &mut nowhere, 0);
+            }
+        },
+        Verdict::Refused(_) => match right {
+            Verdict::Accepted(_) => {
+                let mut nowhere = [0.0; 480];
+                deinterleave(samples, nf, &mut nowhere, 0, right_inputs, right_start);
+            }
+            Verdict::Refused(_) => {}
+        },
+    }
+}
+
+// An ear's frame, which stands in its ring of inputs if it is accepted. A refused ear keeps its state.
+pub(crate) fn step_ear(
     ear: Ear,
-    inputs: &[f32],
-    outputs: &mut [f32],
-    plan: Plan,
+    verdict: Verdict,
+    kept: &mut [f32; 24],
+    inputs: &[f32; 1080],
+    outputs: &mut [f32; 1080],
     numerators: &[f32],
     denominators: &[f32],
 ) -> FramedInPlace
-    requires { ⌜ Judged (ear .registers) (ear .«block_start_index») (now numerators) (now denominators) (blockAt (plan .config) (ear .«block_start_index») (now inputs)) plan × (length (now inputs) ≡ 1080) × (length (now outputs) ≡ 1080) ⌝ }
-    ensures { λ r. ⌜ (r, now (outputs .exit)) ≡ carriedBlock (ear .registers) (ear .«block_start_index») (now (inputs .entry)) (now (outputs .entry)) plan (now (numerators .entry)) (now (denominators .entry)) ⌝ }
+    requires { ⌜ Steppable ear verdict (now kept) (now inputs) (now outputs) (now numerators) (now denominators) ⌝ }
+    ensures { λ r. ⌜ ((r, now (kept .exit), now (outputs .exit)) ≡ stepped ear verdict (now (kept .entry)) (now (inputs .entry)) (now (outputs .entry)) (now (numerators .entry)) (now (denominators .entry))) × Whole verdict (now (outputs .entry)) ⌝ }
 {
     let registers = ear.registers;
-    let start = ear.block_start_index;
-    carry_block(
-        registers,
-        start,
-        inputs,
-        outputs,
-        plan,
-        numerators,
-        denominators,
-    )
-}
-
-// Whether both frames are of the first case, and so leave the buffer as it is. Only a yes has to be right: it spares
-// the copying back.
-fn both_inactive(left_plan: Plan, right_plan: Plan) -> bool
-    ensures { λ r. ⌜ (r ≡ true → («left_plan» .transition ≡ Inactive) × («right_plan» .transition ≡ Inactive)) ⌝ }
-{
-    let left = left_plan.transition;
-    let right = right_plan.transition;
-    if let Transition::Inactive = left {
-        if let Transition::Inactive = right {
-            return true;
+    match verdict {
+        Verdict::Refused(answer) => FramedInPlace { answer, registers },
+        Verdict::Accepted(plan) => {
+            filter_planned(
+                registers.marks.lag.whole,
+                registers.block_start_index,
+                plan,
+                kept,
+                inputs,
+                outputs,
+                numerators,
+                denominators,
+            );
+            FramedInPlace {
+                answer: Answer::Done,
+                registers: move_on(registers, plan),
+            }
         }
     }
-    false
 }
 
-// The frames of both ears. lx, ly and lp are the left ear's rings of inputs and outputs and its plan, rx, ry and rp the
-// right ear's; num and den are the lent rows.
-pub(crate) fn carry_both(
-    left: Ear,
-    lx: &mut [f32],
-    ly: &mut [f32],
-    lp: Plan,
-    right: Ear,
-    rx: &mut [f32],
-    ry: &mut [f32],
-    rp: Plan,
-    num: &[f32],
-    den: &[f32],
-    samples: &mut [f32],
-) -> BothFramed
-    requires { ⌜ Ready left (now num) (now den) (lefts (now samples)) (now samples) lp (now lx) (now ly) × Ready right (now num) (now den) (rights (now samples)) (now samples) rp (now rx) (now ry) ⌝ }
-    ensures { λ r. ⌜ (r, now (lx .exit), now (ly .exit), now (rx .exit), now (ry .exit), now (samples .exit)) ≡ bothApart (bothOf (done (accepted (stateOf left (now (lx .entry)) (now (ly .entry))) lp (now (num .entry)) (now (den .entry)) (lefts (now (samples .entry))))) (done (accepted (stateOf right (now (rx .entry)) (now (ry .entry))) rp (now (num .entry)) (now (den .entry)) (rights (now (samples .entry)))))) ⌝ }
+// Whether an ear's frame changes its samples. Only a no has to be right: it spares the copying back.
+fn changes(verdict: Verdict) -> bool
+    ensures { λ r. ⌜ (r ≡ false → (plan : Plan) → verdict ≡ Accepted plan → plan .transition ≡ Inactive) ⌝ }
 {
-    let nf = lp.config.nf;
-    let left_start = left.block_start_index;
-    let right_start = right.block_start_index;
-    part(samples, nf, lx, left_start, rx, right_start);
-    let both = BothFramed {
-        left: carry_ear(left, lx, ly, lp, num, den),
-        right: carry_ear(right, rx, ry, rp, num, den),
-    };
-    if both_inactive(lp, rp) {
-        return both;
+    match verdict {
+        Verdict::Refused(_) => false,
+        Verdict::Accepted(plan) => {
+            let transition = plan.transition;
+            if let Transition::Inactive = transition {
+                return false;
+            }
+            true
+        }
     }
-    join(samples, nf, ly, left_start, ry, right_start);
-    both
 }
 
-// The left ear's frame alone. The samples of the other ear are put back as they were.
-pub(crate) fn carry_left(
-    ear: Ear,
-    x: &mut [f32],
-    y: &mut [f32],
-    plan: Plan,
-    num: &[f32],
-    den: &[f32],
-    samples: &mut [f32],
-) -> FramedInPlace
-    requires { ⌜ Ready ear (now num) (now den) (lefts (now samples)) (now samples) plan (now x) (now y) ⌝ }
-    ensures { λ r. ⌜ (r, now (x .exit), now (y .exit), now (samples .exit)) ≡ leftApart (done (accepted (stateOf ear (now (x .entry)) (now (y .entry))) plan (now (num .entry)) (now (den .entry)) (lefts (now (samples .entry))))) (rights (now (samples .entry))) ⌝ }
+// Puts the left ear's samples into the buffer. Those of the other ear are put back as they were.
+fn put_left(samples: &mut [f32], nf: usize, outputs: &[f32], start: usize)
+    requires { ⌜ (length (now samples) ≡ 2 * nf) × (nf ≤ 480) × (start + nf ≤ length (now outputs)) ⌝ }
+    ensures { λ _. ⌜ now (samples .exit) ≡ inTurn (take nf (drop start (now (outputs .entry)))) (rights (now (samples .entry))) ⌝ }
 {
-    let nf = plan.config.nf;
-    let start = ear.block_start_index;
+    let mut own = [0.0; 480];
     let mut others = [0.0; 480];
-    part(samples, nf, x, start, &mut others, 0);
-    let framed = carry_ear(ear, x, y, plan, num, den);
-    join(samples, nf, y, start, &others, 0);
-    framed
+    deinterleave(samples, nf, &mut own, 0, &mut others, 0);
+    interleave(samples, nf, outputs, start, &others, 0);
 }
 
 // The right ear's.
-pub(crate) fn carry_right(
-    ear: Ear,
-    x: &mut [f32],
-    y: &mut [f32],
-    plan: Plan,
-    num: &[f32],
-    den: &[f32],
-    samples: &mut [f32],
-) -> FramedInPlace
-    requires { ⌜ Ready ear (now num) (now den) (rights (now samples)) (now samples) plan (now x) (now y) ⌝ }
-    ensures { λ r. ⌜ (r, now (x .exit), now (y .exit), now (samples .exit)) ≡ rightApart (lefts (now (samples .entry))) (done (accepted (stateOf ear (now (x .entry)) (now (y .entry))) plan (now (num .entry)) (now (den .entry)) (rights (now (samples .entry))))) ⌝ }
+fn put_right(samples: &mut [f32], nf: usize, outputs: &[f32], start: usize)
+    requires { ⌜ (length (now samples) ≡ 2 * nf) × (nf ≤ 480) × (start + nf ≤ length (now outputs)) ⌝ }
+    ensures { λ _. ⌜ now (samples .exit) ≡ inTurn (lefts (now (samples .entry))) (take nf (drop start (now (outputs .entry)))) ⌝ }
 {
-    let nf = plan.config.nf;
-    let start = ear.block_start_index;
     let mut others = [0.0; 480];
-    part(samples, nf, &mut others, 0, x, start);
-    let framed = carry_ear(ear, x, y, plan, num, den);
-    join(samples, nf, &others, 0, y, start);
-    framed
+    let mut own = [0.0; 480];
+    deinterleave(samples, nf, &mut others, 0, &mut own, 0);
+    interleave(samples, nf, &others, 0, outputs, start);
+}
+
+// Hands the outputs of the accepted ears back. A refused ear's samples stay.
+pub(crate) fn hand_back(
+    left: Verdict,
+    left_start: usize,
+    left_outputs: &[f32; 1080],
+    right: Verdict,
+    right_start: usize,
+    right_outputs: &[f32; 1080],
+    samples: &mut [f32],
+)
+    requires { ⌜ Room left «left_start» (now samples) × Room right «right_start» (now samples) × Still left «left_start» (now «left_outputs») (lefts (now samples)) × Still right «right_start» (now «right_outputs») (rights (now samples)) ⌝ }
+    ensures { λ _. ⌜ now (samples .exit) ≡ inTurn (handed left «left_start» (now («left_outputs» .entry)) (lefts (now (samples .entry)))) (handed right «right_start» (now («right_outputs» .entry)) (rights (now (samples .entry)))) ⌝ }
+{
+    if !(changes(left) | changes(right)) {
+        return;
+    }
+    let nf = samples.len() / 2;
+    match left {
+        Verdict::Accepted(_) => match right {
+            Verdict::Accepted(_) => interleave(
+                samples,
+                nf,
+                left_outputs,
+                left_start,
+                right_outputs,
+                right_start,
+            ),
+            Verdict::Refused(_) => put_left(samples, nf, left_outputs, left_start),
+        },
+        Verdict::Refused(_) => match right {
+            Verdict::Accepted(_) => put_right(samples, nf, right_outputs, right_start),
+            Verdict::Refused(_) => {}
+        },
+    }
 }

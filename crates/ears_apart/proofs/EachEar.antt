@@ -2,7 +2,8 @@
 -- that were its own leave of its own state, and the replies that it got are those that these calls give it. The rings are arrays of 1,080 samples.
 use Prim.Native.Nat.{ℕ}
 use mathlib.Core.Path.{_≡_, refl, sym, _∙_, ap}
-use mathlib.Core.List.{List, [], _∷_, _++_, foldr-append}
+use mathlib.Core.List.{List, [], _∷_}
+use Rattle.calls.proofs.Both as both
 use Rattle.rates.specs.declared.config.Configured.{Configured}
 use Rattle.rates.specs.declared.config.Configured.the-variants.{Config, Refused}
 use Rattle.decoder.specs.State.{started, fitDecoder}
@@ -10,43 +11,35 @@ use Rattle.decoder.specs.Frame.{lostWith, lostFrom}
 use Rattle.decoder.specs.declared.state.Decoder.{Decoder}
 use Rattle.settling.specs.Calls as one
 use Rattle.settling.proofs.FitStates.{started-fit}
-use Rattle.ears_apart.specs.Calls.{Headset, WhichEar, leftEar, rightEar, own, Rings, Arrays, Call, start, loss, frame, withOwn, after, afterAll, ifOwn, replyTo, repliesTo, EarCall, earStart, earLoss, givenTo, toEar, callsOf, earAfter, earReply, earAfterAll, earReplies}
+use Rattle.ears_apart.specs.Calls.{Headset, WhichEar, leftEar, rightEar, own, Rings, Arrays, Call, start, loss, frame, withOwn, after, afterAll, ifOwn, replyTo, repliesTo, EarCall, givenTo, toEar, callsOf, earAfterAll, earReplies, ear}
 use Rattle.ears_apart.proofs.AsOne.{keeps}
 use Rattle.ears_apart.proofs.Interference.{given-halved, at-exit}
 
 -- one call: of one ear, or a frame
-own-after-one : (e which : WhichEar) (h : Headset) (c : EarCall) → own e (withOwn which h (earAfter (own which h) c)) ≡ earAfterAll (own e h) (ifOwn e which c)
+own-after-one : (e which : WhichEar) (h : Headset) (c : EarCall) → own e (withOwn which h (ear .after (own which h) c)) ≡ earAfterAll (own e h) (ifOwn e which c)
 own-after-one leftEar leftEar h c = refl
 own-after-one leftEar rightEar h c = refl
 own-after-one rightEar leftEar h c = refl
 own-after-one rightEar rightEar h c = refl
 
 own-after : (e : WhichEar) (h : Headset) (c : Call) → own e (after h c) ≡ earAfterAll (own e h) (toEar e h c)
-own-after e h (start which rate duration) = own-after-one e which h (earStart rate duration)
-own-after e h (loss which) = own-after-one e which h earLoss
+own-after e h (start which rate duration) = own-after-one e which h (one.start rate duration)
+own-after e h (loss which) = own-after-one e which h one.loss
 own-after leftEar h (frame f) = refl
 own-after rightEar h (frame f) = refl
 
-reply-one : (e which : WhichEar) (d : Decoder) (c : EarCall) → ifOwn e which (earReply d c) ≡ earReplies d (ifOwn e which c)
+reply-one : (e which : WhichEar) (d : Decoder) (c : EarCall) → ifOwn e which (ear .reply d c) ≡ earReplies d (ifOwn e which c)
 reply-one leftEar leftEar d c = refl
 reply-one leftEar rightEar d c = refl
 reply-one rightEar leftEar d c = refl
 reply-one rightEar rightEar d c = refl
-
--- calls after calls
-after-both : (d : Decoder) (late early : List EarCall) → earAfterAll d (late ++ early) ≡ earAfterAll (earAfterAll d early) late
-after-both d late early = foldr-append (λ c before. earAfter before c) d late early
-
-replies-both : (d : Decoder) (late early : List EarCall) → earReplies d (late ++ early) ≡ earReplies (earAfterAll d early) late ++ earReplies d early
-replies-both d [] early = refl
-replies-both d (c ∷ late) early = rw (after-both d late early, replies-both d late early)
 
 pub state-by-itself : (e : WhichEar) (h : Headset) (calls : List Call) → own e (afterAll h calls) ≡ earAfterAll (own e h) (callsOf e h calls)
 state-by-itself e h [] = refl
 state-by-itself e h (c ∷ earlier) =
     let i = afterAll h earlier in
     own-after e i c ∙ ap (λ (d : Decoder). earAfterAll d (toEar e i c)) (state-by-itself e h earlier)
-    ∙ sym (after-both (own e h) (toEar e i c) (callsOf e h earlier))
+    ∙ sym (both.after-both ear (own e h) (toEar e i c) (callsOf e h earlier))
 
 -- the rings stay arrays of that length
 started-rings : (rate duration : ℕ) → Rings (started rate duration .decoder)
@@ -81,8 +74,8 @@ arrays-all h a [] = a
 arrays-all h a (c ∷ earlier) = arrays-after (afterAll h earlier) (arrays-all h a earlier) c
 
 reply-by-itself : (e : WhichEar) (h : Headset) → Arrays h → (c : Call) → replyTo e h c ≡ earReplies (own e h) (toEar e h c)
-reply-by-itself e h a (start which rate duration) = reply-one e which (own e h) (earStart rate duration)
-reply-by-itself e h a (loss which) = reply-one e which (own e h) earLoss
+reply-by-itself e h a (start which rate duration) = reply-one e which (own e h) (one.start rate duration)
+reply-by-itself e h a (loss which) = reply-one e which (own e h) one.loss
 reply-by-itself e h a (frame f) = ap (λ r. one.replyOf r ∷ []) (at-exit e h a f)
 
 replies-by-itself : (e : WhichEar) (h : Headset) → Arrays h → (calls : List Call) → repliesTo e h calls ≡ earReplies (own e h) (callsOf e h calls)
@@ -90,7 +83,7 @@ replies-by-itself e h a [] = refl
 replies-by-itself e h a (c ∷ earlier) =
     let i = afterAll h earlier in
     rw (reply-by-itself e i (arrays-all h a earlier) c, replies-by-itself e h a earlier, state-by-itself e h earlier)
-    (sym (replies-both (own e h) (toEar e i c) (callsOf e h earlier)))
+    (sym (both.each-both ear (ear .reply) (own e h) (toEar e i c) (callsOf e h earlier)))
 
 pub ear-by-itself : (e : WhichEar) (h : Headset) → Arrays h → (calls : List Call) →
     (own e (afterAll h calls) ≡ earAfterAll (own e h) (callsOf e h calls)) × (repliesTo e h calls ≡ earReplies (own e h) (callsOf e h calls))

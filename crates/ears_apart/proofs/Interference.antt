@@ -21,44 +21,45 @@ use Rattle.rates.specs.declared.config.Lc3Config.{Lc3Config}
 use Rattle.rates.specs.declared.config.Configured.the-variants.{Config}
 use Rattle.rates.proofs.Known.{both}
 use Rattle.lag.specs.declared.pitch.PitchRecord.{PitchRecord}
-use Rattle.control.specs.Judge.{setCounts, setFinite}
-use Rattle.control.specs.declared.judge.Verdict.{Verdict}
-use Rattle.control.specs.declared.judge.Verdict.the-variants.{Refused, Accepted}
+use Rattle.judging.specs.Judge.{setCounts, setFinite}
+use Rattle.judging.specs.declared.plan.Verdict.{Verdict}
+use Rattle.judging.specs.declared.plan.Verdict.the-variants.{Refused, Accepted}
 use Rattle.decoder.specs.State.{fitDecoder}
 use Rattle.decoder.specs.Frame.{framed}
 use Rattle.decoder.specs.declared.state.Decoder.{Decoder}
 use Rattle.decoder.specs.declared.frame.Framed.{Framed}
-use Rattle.ears.specs.Turns.{lefts, rights}
-use Rattle.ears.specs.Both.{namedAlike, earFramed, bothFramed}
-use Rattle.ears_apart.specs.Calls.{Headset, WhichEar, leftEar, rightEar, own, Rings, Arrays, Given, framedBoth, frame, after, samplesOf, pitchOf, partOf, EarGiven, givenTo, earFramedBy}
-use Rattle.ears.proofs.Buffers.{turned, taken-apart, lengths, halves}
+use Rattle.interleave.specs.Turns.{lefts, rights}
+use Rattle.ears_judging.specs.Judge.{namedAlike}
+use Rattle.ears.specs.Both.{earFramed, bothFramed}
+use Rattle.ears_apart.specs.Calls.{Headset, WhichEar, leftEar, rightEar, own, Rings, Arrays, Given, framedBoth, frame, after, samplesOf, pitchOf, partOf, EarGiven, givenTo, earFramedBy, ear}
+use Rattle.interleave.proofs.Buffers.{turned, taken-apart, lengths, halves}
 use Rattle.ears_apart.proofs.AsOne.{Halved, onVerdict, verdictOn, by-verdict, whole-framed, other-framed, keeps}
 
 -- the two states name one rate and one duration
 abbrev pub NamedAlike : Headset → Type 0
-NamedAlike h = (h .left .registers .rate ≡ h .right .registers .rate) × (h .left .registers .duration ≡ h .right .registers .duration)
+NamedAlike h = (h .left .registers .marks .rate ≡ h .right .registers .marks .rate) × (h .left .registers .marks .duration ≡ h .right .registers .marks .duration)
 
-named-alike : (h : Headset) → NamedAlike h → namedAlike (h .left .registers) (h .right .registers) ≡ true
-named-alike h n = rw (eq-eqb (h .left .registers .rate) (h .right .registers .rate) (n .0), eq-eqb (h .left .registers .duration) (h .right .registers .duration) (n .1))
+named-alike : (h : Headset) → NamedAlike h → namedAlike (h .left .registers .marks) (h .right .registers .marks) ≡ true
+named-alike h n = rw (eq-eqb (h .left .registers .marks .rate) (h .right .registers .marks .rate) (n .0), eq-eqb (h .left .registers .marks .duration) (h .right .registers .marks .duration) (n .1))
 
 not-true : (b : Bool) → (b ≡ true → ⊥) → b ≡ false
 not-true true n = absurd (n refl)
 not-true false n = refl
 
-named-differ : (h : Headset) → (NamedAlike h → ⊥) → namedAlike (h .left .registers) (h .right .registers) ≡ false
+named-differ : (h : Headset) → (NamedAlike h → ⊥) → namedAlike (h .left .registers .marks) (h .right .registers .marks) ≡ false
 named-differ h n =
-    let l = h .left .registers in
-    let r = h .right .registers in
+    let l = h .left .registers .marks in
+    let r = h .right .registers .marks in
     not-true (namedAlike l r) (λ w.
     let k = both (eqb (l .rate) (r .rate)) (eqb (l .duration) (r .duration)) w in
     n (eqb-true (l .rate) (r .rate) (k .0), eqb-true (l .duration) (r .duration) (k .1)))
 
 ear-refused : (d : Decoder) (g : EarGiven) → (numberOf (earFramedBy d g .0 .answer) ≡ 0 → ⊥) →
-    (earFramedBy d g .0 .decoder ≡ d) × (earFramedBy d g .0 .settled ≡ d .registers .settled) × (earFramedBy d g .1 ≡ g .samples)
-ear-refused d g n = go (verdictOn g (g .shared .alike) (d .registers) (fitDecoder d)) (by-verdict d g)
+    (earFramedBy d g .0 .decoder ≡ d) × (earFramedBy d g .0 .settled ≡ d .registers .marks .settled) × (earFramedBy d g .1 ≡ g .samples)
+ear-refused d g n = go (verdictOn g (g .shared .alike) (d .registers)) (by-verdict d g)
   where
     go : (v : Verdict) → earFramedBy d g ≡ onVerdict d g v →
-        (earFramedBy d g .0 .decoder ≡ d) × (earFramedBy d g .0 .settled ≡ d .registers .settled) × (earFramedBy d g .1 ≡ g .samples)
+        (earFramedBy d g .0 .decoder ≡ d) × (earFramedBy d g .0 .settled ≡ d .registers .marks .settled) × (earFramedBy d g .1 ≡ g .samples)
     go (Refused answer) e = rw e (refl, refl, refl)
     go (Accepted plan) e = absurd (n (rw e))
 
@@ -88,7 +89,7 @@ alone e h i r q f g o same = at-exit e h r f ∙ ap (λ d. earFramedBy d (givenT
 
 module _ (numerators denominators : List Float) (nbits : ℕ) (pl pr : PitchRecord) (b c : List Float) (long : length b ≡ length c) where
   pub left-alone : (l r q : Decoder) → Rings l → Rings r → Rings q →
-      r .registers .rate ≡ q .registers .rate → r .registers .duration ≡ q .registers .duration → (pq : PitchRecord) → lefts b ≡ lefts c →
+      r .registers .marks .rate ≡ q .registers .marks .rate → r .registers .marks .duration ≡ q .registers .marks .duration → (pq : PitchRecord) → lefts b ≡ lefts c →
       partOf leftEar (bothFramed l r numerators denominators pl pr nbits b) ≡ partOf leftEar (bothFramed l q numerators denominators pl pq nbits c)
   left-alone l r q al ar aq hz us pq s =
       alone leftEar (record { left = l; right = r }) (record { left = l; right = q }) (al, ar) (al, aq)
@@ -97,7 +98,7 @@ module _ (numerators denominators : List Float) (nbits : ℕ) (pl pr : PitchReco
       refl (rw (hz, us, long, s))
 
   pub right-alone : (l q r : Decoder) → Rings l → Rings q → Rings r →
-      l .registers .rate ≡ q .registers .rate → l .registers .duration ≡ q .registers .duration → (pq : PitchRecord) → rights b ≡ rights c →
+      l .registers .marks .rate ≡ q .registers .marks .rate → l .registers .marks .duration ≡ q .registers .marks .duration → (pq : PitchRecord) → rights b ≡ rights c →
       partOf rightEar (bothFramed l r numerators denominators pl pr nbits b) ≡ partOf rightEar (bothFramed q r numerators denominators pq pr nbits c)
   right-alone l q r al aq ar hz us pq s =
       alone rightEar (record { left = l; right = r }) (record { left = q; right = r }) (al, ar) (aq, ar)
@@ -116,7 +117,7 @@ as-one-decoder e h r n f k even =
     ))
 
 pub refused-ear-keeps : (e : WhichEar) (h : Headset) → Arrays h → (f : Given) → (numberOf (partOf e (framedBoth h f) .0 .answer) ≡ 0 → ⊥) →
-    (own e (after h (frame f)) ≡ own e h) × (partOf e (framedBoth h f) .0 .settled ≡ own e h .registers .settled) ×
+    (own e (after h (frame f)) ≡ own e h) × (partOf e (framedBoth h f) .0 .settled ≡ own e h .registers .marks .settled) ×
     (samplesOf e (framedBoth h f .2) ≡ samplesOf e (f .samples))
 refused-ear-keeps leftEar h r f n =
     let k = ear-refused (h .left) (givenTo leftEar h f) n in (k .0, k .1, ap (λ (p : Framed × List Float). p .1) (at-exit leftEar h r f) ∙ k .2)
@@ -124,7 +125,7 @@ refused-ear-keeps rightEar h r f n =
     let k = ear-refused (h .right) (givenTo rightEar h f) n in (k .0, k .1, ap (λ (p : Framed × List Float). p .1) (at-exit rightEar h r f) ∙ k .2)
 
 pub odd-buffer : (e : WhichEar) (h : Headset) → Arrays h → NamedAlike h → (f : Given) (k : ℕ) → length (f .samples) ≡ 2 * k + 1 →
-    (c : Lc3Config) → fitDecoder (own e h) ≡ Config c → setCounts c (f .numerators) (f .denominators) ≡ true → setFinite (f .numerators) (f .denominators) ≡ true →
+    (c : Lc3Config) → fitDecoder (own e h) ≡ Config c → setCounts (c .fs .«l_den») (f .numerators) (f .denominators) ≡ true → setFinite (f .numerators) (f .denominators) ≡ true →
     numberOf (partOf e (framedBoth h f) .0 .answer) ≡ 5
 odd-buffer e h r n f k odd c fit counts finite =
     let half : length (f .samples) ≡ 2 * length (samplesOf e (f .samples)) → ⊥ = λ q. omega arith in
@@ -137,7 +138,7 @@ odd-buffer e h r n f k odd c fit counts finite =
 
 pub ears-differ : (h : Headset) → (NamedAlike h → ⊥) → (f : Given) →
     (numberOf (framedBoth h f .0 .answer) ≡ 13) × (numberOf (framedBoth h f .1 .answer) ≡ 13) × (after h (frame f) ≡ h) ×
-    (framedBoth h f .0 .settled ≡ h .left .registers .settled) × (framedBoth h f .1 .settled ≡ h .right .registers .settled) ×
+    (framedBoth h f .0 .settled ≡ h .left .registers .marks .settled) × (framedBoth h f .1 .settled ≡ h .right .registers .marks .settled) ×
     (framedBoth h f .2 ≡ f .samples)
 unfolding earFramed
 ears-differ h n f = rw (named-differ h n) (refl, refl, refl, refl, refl, turned (f .samples))

@@ -3,4 +3,6 @@ pub mod AsOne
 pub mod Interference
 pub mod EachEar
 pub mod OneCalls
+pub mod Listening
+pub mod AnyTwo
 pub mod Settling

@@ -10,13 +10,13 @@ use lib.Ieee.{Float}
 use Rattle.rates.specs.declared.answer.Answer.the-variants.{CoefficientCount}
 use Rattle.rates.specs.declared.config.Lc3Config.{Lc3Config}
 use Rattle.lag.specs.declared.pitch.PitchRecord.the-variants.{Absent}
-use Rattle.control.specs.Judge.{judged}
+use Rattle.judging.specs.Judge.{judged}
 use Rattle.decoder.specs.Frame.{framedAs, framed}
 use Rattle.decoder.specs.declared.state.Decoder.{Decoder}
 use Rattle.decoder.specs.declared.frame.Framed.{Framed}
 use Rattle.settling.specs.Calls as one
 use Rattle.settling.proofs.FitStates.{started-fit, after-lost, unsettled-fit, framed-fit}
-use Rattle.ears_apart.specs.Calls.{Headset, WhichEar, leftEar, rightEar, Call, start, loss, frame, afterAll, ifOwn, EarGiven, EarCall, earStart, earLoss, earFrame, toEar, callsOf, earAfter, earEvent, earAfterAll, earEvents}
+use Rattle.ears_apart.specs.Calls.{Headset, WhichEar, leftEar, rightEar, Call, start, loss, frame, afterAll, ifOwn, EarGiven, EarCall, toEar, callsOf, earAfterAll, earEvents, ear, earFrames}
 use Rattle.ears_apart.proofs.AsOne.{Halved, whole, asOne, refusal-some, whole-framed, other-framed}
 use Rattle.ears_apart.proofs.Interference.{given-halved}
 
@@ -32,15 +32,15 @@ abbrev pub oneGiven : EarGiven → one.Given
 oneGiven g = cond (whole g) (asOne g) unheard
 
 abbrev pub oneCall : EarCall → one.Call
-oneCall (earStart rate duration) = one.start rate duration
-oneCall earLoss = one.loss
-oneCall (earFrame g) = one.frame (oneGiven g)
+oneCall (one.start rate duration) = one.start rate duration
+oneCall one.loss = one.loss
+oneCall (one.frame g) = one.frame (oneGiven g)
 
 -- the samples of a frame are half of an even buffer
 abbrev Sound : EarCall → Type 0
-Sound (earStart rate duration) = Unit
-Sound earLoss = Unit
-Sound (earFrame g) = Halved g
+Sound (one.start rate duration) = Unit
+Sound one.loss = Unit
+Sound (one.frame g) = Halved g
 
 abbrev pub AllSound : List EarCall → Type 0
 AllSound [] = Unit
@@ -48,26 +48,26 @@ AllSound (c ∷ earlier) = Sound c × AllSound earlier
 
 -- one call, given to a fit state
 module _ (c : Lc3Config) (d : Decoder) (s : one.FitState c d) where
-  pub same-call : (call : EarCall) → Sound call → (earAfter d call ≡ one.after d (oneCall call)) × (earEvent d call ≡ one.event d (oneCall call))
-  same-call (earStart rate duration) h = (refl, refl)
-  same-call earLoss h = (refl, refl)
-  same-call (earFrame g) h = go (whole g) refl
+  pub same-call : (call : EarCall) → Sound call → (ear .after d call ≡ one.after d (oneCall call)) × (one.eventWith earFrames d call ≡ one.event d (oneCall call))
+  same-call (one.start rate duration) h = (refl, refl)
+  same-call one.loss h = (refl, refl)
+  same-call (one.frame g) h = go (whole g) refl
     where
       state : Framed × List Float → Decoder
       state r = r .0 .decoder
 
-      go : (b : Bool) → whole g ≡ b → (earAfter d (earFrame g) ≡ one.after d (one.frame (cond b (asOne g) unheard))) ×
-          (earEvent d (earFrame g) ≡ one.event d (one.frame (cond b (asOne g) unheard)))
+      go : (b : Bool) → whole g ≡ b → (ear .after d (one.frame g) ≡ one.after d (one.frame (cond b (asOne g) unheard))) ×
+          (one.eventWith earFrames d (one.frame g) ≡ one.event d (one.frame (cond b (asOne g) unheard)))
       go true w = (ap state (whole-framed g d w), rw (whole-framed g d w))
       go false w = (
         ap state (other-framed g d h w) ∙ sym (ap state (unheard-refused c d s)),
         rw (other-framed g d h w, unheard-refused c d s, s .found, refusal-some (g .shared .alike) (g .shared) c),
       )
 
-  call-fit : (call : EarCall) → Sound call → one.Fit (earAfter d call)
-  call-fit (earStart rate duration) h = started-fit rate duration
-  call-fit earLoss h = rw (after-lost c d s) (c, unsettled-fit c d s)
-  call-fit (earFrame g) h = rw (same-call (earFrame g) h .0) (c, framed-fit c (oneGiven g) d s)
+  call-fit : (call : EarCall) → Sound call → one.Fit (ear .after d call)
+  call-fit (one.start rate duration) h = started-fit rate duration
+  call-fit one.loss h = rw (after-lost c d s) (c, unsettled-fit c d s)
+  call-fit (one.frame g) h = rw (same-call (one.frame g) h .0) (c, framed-fit c (oneGiven g) d s)
 
 -- and a list of them
 pub record Stand (d : Decoder) (calls : List EarCall) : Type 0 where
@@ -99,8 +99,8 @@ sound-both (c ∷ late) early l k = (l .0, sound-both late early (l .1) k)
 
 module _ (e : WhichEar) where
   to-sound : (h : Headset) (c : Call) → AllSound (toEar e h c)
-  to-sound h (start which rate duration) = if-sound e which (earStart rate duration) tt
-  to-sound h (loss which) = if-sound e which earLoss tt
+  to-sound h (start which rate duration) = if-sound e which (one.start rate duration) tt
+  to-sound h (loss which) = if-sound e which one.loss tt
   to-sound h (frame f) = (given-halved e h f, tt)
 
   pub all-sound : (h : Headset) (calls : List Call) → AllSound (callsOf e h calls)

@@ -1,18 +1,17 @@
 -- Calls of both ears one after the other, what they are to one ear, and what they give it. Lists of them have the latest first.
 use Prim.Native.Nat.{ℕ}
 use mathlib.Core.Path.{_≡_}
-use mathlib.Core.Bool.{true, cond}
-use mathlib.Core.List.{List, [], _∷_, _++_, foldr}
-use lib.Dec.{eqb}
+use mathlib.Core.List.{List, [], _∷_}
 use lib.Ieee.{Float}
 use lib.ListN.{length}
-use Rattle.rates.specs.Answers.{numberOf}
+use Rattle.calls.specs.Engine as engine
+use Rattle.calls.specs.Engine.{Engine}
 use Rattle.lag.specs.declared.pitch.PitchRecord.{PitchRecord}
-use Rattle.control.specs.Pitch.{isActive}
 use Rattle.decoder.specs.declared.state.Decoder.{Decoder}
 use Rattle.decoder.specs.declared.frame.Framed.{Framed}
-use Rattle.ears.specs.Turns.{lefts, rights}
-use Rattle.ears.specs.Both.{Shared, sharedBy, earFramed, bothFramed}
+use Rattle.interleave.specs.Turns.{lefts, rights}
+use Rattle.ears_judging.specs.Judge.{Shared, sharedBy}
+use Rattle.ears.specs.Both.{earFramed, bothFramed}
 use Rattle.settling.specs.Calls as one
 
 -- the states of the two ears
@@ -67,9 +66,6 @@ after h (start e rate duration) = withOwn e h (one.after (own e h) (one.start ra
 after h (loss e) = withOwn e h (one.after (own e h) one.loss)
 after h (frame f) = record { left = framedBoth h f .0 .decoder; right = framedBoth h f .1 .decoder }
 
-abbrev pub afterAll : Headset → List Call → Headset
-afterAll h calls = foldr (λ c before. after before c) h calls
-
 -- an ear's part of a buffer, of a frame, and of what a frame gives
 abbrev pub samplesOf : WhichEar → List Float → List Float
 samplesOf leftEar buffer = lefts buffer
@@ -96,9 +92,15 @@ replyTo e h (start which rate duration) = ifOwn e which (one.reply (own e h) (on
 replyTo e h (loss which) = ifOwn e which (one.reply (own e h) one.loss)
 replyTo e h (frame f) = one.replyOf (partOf e (framedBoth h f)) ∷ []
 
+abbrev pub headset : Engine Headset Call (WhichEar → List one.Reply)
+headset = record { after = after; reply = λ h c e. replyTo e h c }
+
+-- the states after all of the calls, and the replies that an ear got
+abbrev pub afterAll : Headset → List Call → Headset
+afterAll = engine.afterAll headset
+
 abbrev pub repliesTo : WhichEar → Headset → List Call → List one.Reply
-repliesTo e h [] = []
-repliesTo e h (c ∷ earlier) = replyTo e (afterAll h earlier) c ++ repliesTo e h earlier
+repliesTo e = engine.some headset (replyTo e)
 
 -- what a frame is to one ear: what the ears share, and the ear's own record and samples
 pub record EarGiven : Type 0 where
@@ -107,58 +109,43 @@ pub record EarGiven : Type 0 where
   pub samples : List Float
 
 -- what a call is to one ear
-pub data EarCall : Type 0 where
-  earStart : ℕ → ℕ → EarCall
-  earLoss : EarCall
-  earFrame : EarGiven → EarCall
+abbrev pub EarCall : Type 0
+EarCall = one.CallWith EarGiven
 
 abbrev pub givenTo : WhichEar → Headset → Given → EarGiven
 givenTo e h f = record {
-  shared = sharedBy (h .left) (h .right) (f .numerators) (f .denominators) (f .nbits) (f .samples);
+  shared = sharedBy (h .left .registers) (h .right .registers) (f .numerators) (f .denominators) (f .nbits) (f .samples);
   pitch = pitchOf e f;
   samples = samplesOf e (f .samples);
 }
 
 -- the other ear's start or loss mark is no call of this ear; what its state names then, later frames share
 abbrev pub toEar : WhichEar → Headset → Call → List EarCall
-toEar e h (start which rate duration) = ifOwn e which (earStart rate duration)
-toEar e h (loss which) = ifOwn e which earLoss
-toEar e h (frame f) = earFrame (givenTo e h f) ∷ []
+toEar e h (start which rate duration) = ifOwn e which (one.start rate duration)
+toEar e h (loss which) = ifOwn e which one.loss
+toEar e h (frame f) = one.frame (givenTo e h f) ∷ []
 
 abbrev pub callsOf : WhichEar → Headset → List Call → List EarCall
-callsOf e h [] = []
-callsOf e h (c ∷ earlier) = toEar e (afterAll h earlier) c ++ callsOf e h earlier
+callsOf e = engine.some headset (toEar e)
 
--- what an ear's calls do to its state, give back, and were: by the ear's frame, and else as one decoder's
+-- an ear is a decoder that is given its part of the frames
 abbrev pub earFramedBy : Decoder → EarGiven → Framed × List Float
 earFramedBy d g = earFramed (g .shared) d (g .pitch) (g .samples)
 
-abbrev pub earAfter : Decoder → EarCall → Decoder
-earAfter d (earStart rate duration) = one.after d (one.start rate duration)
-earAfter d earLoss = one.after d one.loss
-earAfter d (earFrame g) = earFramedBy d g .0 .decoder
+abbrev pub earFrames : one.Frames EarGiven
+earFrames = record { framedBy = earFramedBy; pitchOf = λ g. g .pitch; samplesOf = λ g. g .samples }
 
-abbrev pub earReply : Decoder → EarCall → one.Reply
-earReply d (earStart rate duration) = one.reply d (one.start rate duration)
-earReply d earLoss = one.reply d one.loss
-earReply d (earFrame g) = one.replyOf (earFramedBy d g)
-
-abbrev pub earEvent : Decoder → EarCall → one.Event
-earEvent d (earStart rate duration) = one.restart
-earEvent d earLoss = one.restart
-earEvent d (earFrame g) =
-    cond (eqb (numberOf (earFramedBy d g .0 .answer)) 0) (cond (isActive (g .pitch)) one.active (one.quiet (g .samples))) one.refusal
+abbrev pub ear : Engine Decoder EarCall one.Reply
+ear = one.decoderWith earFrames
 
 abbrev pub earAfterAll : Decoder → List EarCall → Decoder
-earAfterAll d calls = foldr (λ c before. earAfter before c) d calls
+earAfterAll = engine.afterAll ear
 
 abbrev pub earReplies : Decoder → List EarCall → List one.Reply
-earReplies d [] = []
-earReplies d (c ∷ earlier) = earReply (earAfterAll d earlier) c ∷ earReplies d earlier
+earReplies = engine.replies ear
 
 abbrev pub earEvents : Decoder → List EarCall → List one.Event
-earEvents d [] = []
-earEvents d (c ∷ earlier) = earEvent (earAfterAll d earlier) c ∷ earEvents d earlier
+earEvents = engine.each ear (one.eventWith earFrames)
 
 -- what calls of both ears were to one ear
 abbrev pub eventsTo : WhichEar → Headset → List Call → List one.Event
@@ -166,8 +153,5 @@ eventsTo e h calls = earEvents (own e h) (callsOf e h calls)
 
 -- The same ear of two headsets has accepted the limit's number of inactive frames in a row, with no start and no loss mark of its own, each with
 -- refused frames of its own in between, and the ear's samples of those inactive frames were the same.
-pub record EarsSettleAlike (e : WhichEar) (a b : Headset) (calls-a calls-b : List Call) : Type 0 where
-  pub first : one.still (eventsTo e a calls-a) ≡ true
-  pub second : one.still (eventsTo e b calls-b) ≡ true
-  pub same : one.heard (eventsTo e a calls-a) ≡ one.heard (eventsTo e b calls-b)
-  pub many : length (one.heard (eventsTo e a calls-a)) ≡ one.limitOf (own e a)
+abbrev pub EarsSettleAlike : WhichEar → Headset → Headset → List Call → List Call → Type 0
+EarsSettleAlike e a b calls-a calls-b = one.QuietAlike (one.limitOf (own e a)) (eventsTo e a calls-a) (eventsTo e b calls-b)

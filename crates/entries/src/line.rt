@@ -1,7 +1,7 @@
 // A line: the number of a frame, and what came of it.
 use crate::side::Side;
 use crate::side::read_side;
-use control::judge::SideInfo;
+use judging::plan::SideInfo;
 use lines::field::Number;
 use lines::field::first_tab;
 use lines::field::read_number;

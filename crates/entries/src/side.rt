@@ -1,5 +1,5 @@
 // The side information of a frame as a booth writes it: pitch, active and nbits, parted by tabs.
-use control::judge::SideInfo;
+use judging::plan::SideInfo;
 use lag::pitch::PitchRecord;
 use lag::pitch::Present;
 use lines::field::Field;

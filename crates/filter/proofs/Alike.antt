@@ -11,7 +11,7 @@ use Rattle.filter.specs.Filter.{numSum, denSum, F}
 use Rattle.filter.specs.Fade.{grow, steady, faded}
 use Rattle.filter.specs.Transition.{outputs, caseActivated, caseDeactivated, casePitchKept, casePitchChanged}
 use Rattle.filter.specs.Required.{Inside, Readable}
-use Rattle.coefficients.specs.declared.Taps.{Taps}
+use Rattle.coefficients.specs.Coefficients.{Filter}
 use Rattle.filter.specs.declared.fade.Direction.{Direction}
 use Rattle.filter.specs.declared.fade.Direction.the-variants.{In, Out}
 use Rattle.filter.specs.declared.transition.Transition.{Transition}
@@ -54,13 +54,13 @@ denSum-alike start den y y′ from i zero h s = refl
 denSum-alike start den y y′ from i (suc k) h s =
     rw (denSum-alike start den y y′ from i k (omega arith) s, at-alike from (i - k) y y′ (omega arith) s)
 
-module _ (t : Taps) (reach from : ℕ) (inside : Inside t reach) (x x′ : List Float) (sx : Alike from x x′) where
+module _ (t : Filter) (reach from : ℕ) (inside : Inside t reach) (x x′ : List Float) (sx : Alike from x x′) where
   F-alike : (y y′ : List Float) (i : ℕ) → from + reach ≤ i → Alike from y y′ → F t x y i ≡ F t x′ y′ i
   unfolding F
   F-alike y y′ i h sy =
       rw (
         numSum-alike (t .«c_num») x x′ from i (t .«l_den» - 1) (omega arith) sx,
-        denSum-alike _ (t .«c_den») y y′ from (i + t .«l_den» / 2 - t .lag .whole) (t .«l_den» + 1) (omega arith) sy,
+        denSum-alike _ (t .«c_den») y y′ from (i + t .«l_den» / 2 - t .lag) (t .«l_den» + 1) (omega arith) sy,
       )
 
   pub steady-alike : (y y′ : List Float) → from + reach ≤ length y → Alike from y y′ → steady t x y ≡ steady t x′ y′
@@ -84,20 +84,20 @@ grow-alike f g least from y y′ (suc n) l h same s =
     append-alike from (grow f y n) (grow g y′ n) _ _ (omega arith) before (ap (λ (v : Float). v ∷ []) (same (grow f y n) (grow g y′ n) long before))
 
 module _ (from reach fade : ℕ) (x x′ p p′ : List Float) (h : from + reach ≤ length p) (sx : Alike from x x′) (sp : Alike from p p′) where
-  fade-alike : (direction : Direction) (t : Taps) (z z′ : List Float) → Inside t reach → Alike from z z′ →
+  fade-alike : (direction : Direction) (t : Filter) (z z′ : List Float) → Inside t reach → Alike from z z′ →
       Alike from (grow (faded direction (length p) fade t z) p fade) (grow (faded direction (length p′) fade t z′) p′ fade)
   fade-alike direction t z z′ i s =
       rw (← sp .long) (grow-alike _ _ (length p) from p p′ fade (omega arith) (omega arith)
       (λ u v l w. faded-alike t reach from i z z′ s direction (length p) fade u v (omega arith) w) sp)
 
-  rest-alike : (t : Taps) → Inside t reach → (y y′ : List Float) → length p ≤ length y → Alike from y y′ → (m m′ : ℕ) → m ≡ m′ →
+  rest-alike : (t : Filter) → Inside t reach → (y y′ : List Float) → length p ≤ length y → Alike from y y′ → (m m′ : ℕ) → m ≡ m′ →
       Alike from (grow (steady t x) y (length x - m)) (grow (steady t x′) y′ (length x′ - m′))
   rest-alike t i y y′ l s m m′ e =
       rw (← sx .long, ← e) (grow-alike _ _ (length p) from y y′ (length x - m) (omega arith) l
       (λ u v k w. steady-alike t reach from i x x′ sx u v (omega arith) w) s)
 
   -- the outputs of each case, after pasts that are alike as far as its filters reach
-  pub outputs-alike : (t : Transition) (old new : Taps) → Readable t old new reach → Alike from (outputs t old new fade x p) (outputs t old new fade x′ p′)
+  pub outputs-alike : (t : Transition) (old new : Filter) → Readable t old new reach → Alike from (outputs t old new fade x p) (outputs t old new fade x′ p′)
   unfolding outputs caseActivated caseDeactivated casePitchKept casePitchChanged
   outputs-alike Inactive old new r =
       append-alike from p p′ _ _ (omega arith) sp (rw (← sp .long) (alike-later from (length p) x x′ (omega arith) sx .rest))

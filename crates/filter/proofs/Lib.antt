@@ -3,7 +3,7 @@ pub mod Growing
 pub mod OutputsLong
 pub mod Reading
 pub mod Alike
-pub mod Late
+pub mod Padded
 pub mod EightLanes
 pub mod Cases
 pub mod NotACopy

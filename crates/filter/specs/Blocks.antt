@@ -7,9 +7,9 @@ use Rattle.floats.specs.Single.{_⊖_, _⊗_, 0·0, at}
 use Rattle.lanes.specs.Lanes.{all, firAdded, firTaken}
 use Rattle.lanes.specs.declared.Lanes.{Lanes}
 use Rattle.filter.specs.Fade.{factor, steady, faded}
-use Rattle.coefficients.specs.declared.Taps.{Taps}
+use Rattle.coefficients.specs.Coefficients.{Filter}
 use Rattle.filter.specs.declared.fade.Direction.{Direction}
-use Rattle.filter.specs.declared.fade.Run.{Run}
+use Rattle.filter.specs.declared.fade.Weighting.{Weighting}
 
 -- both sums of the filter, for eight samples of x from i on and of y from j on
 unfoldable pub sums : List Float → List Float → List Float → ℕ → List Float → ℕ → Lanes
@@ -41,21 +41,21 @@ weighed direction fade n s = record {
   s7 = s .s7 ⊗ factor direction fade (n + 7);
 }
 
--- a run of outputs weighs the filter by the fade, or not at all
-abbrev pub weighedIn : Run → ℕ → ℕ → Lanes → Lanes
-weighedIn Run.Steady fade n s = s
-weighedIn (Run.Fade direction) fade n s = weighed direction fade n s
+-- a weighting multiplies by the factors of the fade, or leaves these as they are
+abbrev pub weighedIn : Weighting → ℕ → ℕ → Lanes → Lanes
+weighedIn Weighting.Steady fade n s = s
+weighedIn (Weighting.Fade direction) fade n s = weighed direction fade n s
 
--- the next output of a run
-abbrev pub nextIn : Run → ℕ → ℕ → Taps → List Float → List Float → Float
-nextIn Run.Steady history fade t x = steady t x
-nextIn (Run.Fade direction) history fade t x = faded direction history fade t x
+-- the next output, so weighted
+abbrev pub nextIn : Weighting → ℕ → ℕ → Filter → List Float → List Float → Float
+nextIn Weighting.Steady history fade filter x = steady filter x
+nextIn (Weighting.Fade direction) history fade filter x = faded direction history fade filter x
 
--- a faded run ends within the fade
-abbrev pub Within : Run → ℕ → ℕ → Type 0
-Within Run.Steady fade end = Unit
-Within (Run.Fade direction) fade end = end ≤ fade
+-- outputs that are faded end within the fade
+abbrev pub Within : Weighting → ℕ → ℕ → Type 0
+Within Weighting.Steady fade end = Unit
+Within (Weighting.Fade direction) fade end = end ≤ fade
 
--- a line that lacks its first samples, with 0.0 in their place
-unfoldable pub late : ℕ → List Float → List Float
-late missing x = replicate missing 0·0 ++ x
+-- a line with so many samples of 0.0 in front, in the place of those that it lacks
+unfoldable pub padded : ℕ → List Float → List Float
+padded missing x = replicate missing 0·0 ++ x

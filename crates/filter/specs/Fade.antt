@@ -5,7 +5,7 @@ use lib.Ieee.{Float}
 use lib.ListN.{length, take, drop}
 use Rattle.floats.specs.Single.{_⊖_, _⊗_, _⊘_, float, at}
 use Rattle.filter.specs.Filter.{F}
-use Rattle.coefficients.specs.declared.Taps.{Taps}
+use Rattle.coefficients.specs.Coefficients.{Filter}
 use Rattle.filter.specs.declared.fade.Direction.{Direction}
 use Rattle.filter.specs.declared.fade.Direction.the-variants.{In, Out}
 
@@ -15,12 +15,12 @@ factor In fade n = float n ⊘ float fade
 factor Out fade n = float 1 ⊖ float n ⊘ float fade
 
 -- the next output x − F, after the outputs y
-unfoldable pub steady : Taps → List Float → List Float → Float
-steady t x y = at x (length y) ⊖ F t x y (length y)
+unfoldable pub steady : Filter → List Float → List Float → Float
+steady filter x y = at x (length y) ⊖ F filter x y (length y)
 
 -- the next output of a fade after a history: x − F·f or x − F·(1 − f)
-unfoldable pub faded : Direction → ℕ → ℕ → Taps → List Float → List Float → Float
-faded direction history fade t x y = at x (length y) ⊖ F t x y (length y) ⊗ factor direction fade (length y - history)
+unfoldable pub faded : Direction → ℕ → ℕ → Filter → List Float → List Float → Float
+faded direction history fade filter x y = at x (length y) ⊖ F filter x y (length y) ⊗ factor direction fade (length y - history)
 
 -- n more outputs, each made of all those before it
 unfoldable pub grow : (List Float → Float) → List Float → ℕ → List Float

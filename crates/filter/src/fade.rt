@@ -3,15 +3,15 @@
 // block begins inside the one before it and makes some outputs again, with the same bits.
 use crate::block::filter_8;
 use crate::block::less_8;
-use coefficients::Taps;
 use lanes::Lanes;
 use lanes::store;
 ghost use mathlib.Core.Path.{_≡_};
 ghost use Prim.Native.Nat.{_+_, _-_, _*_, _≤_, _<_, min};
 ghost use lib.ListN.{length};
+ghost use Rattle.coefficients.specs.Coefficients.{readOut};
 ghost use Rattle.filter.specs.Required.{Inside};
 ghost use Rattle.filter.specs.Fade.{factor, grown};
-ghost use Rattle.filter.specs.Blocks.{weighed, weighedIn, nextIn, Within, late};
+ghost use Rattle.filter.specs.Blocks.{weighed, weighedIn, nextIn, Within, padded};
 
 // A filter fades in by n / fade, and out by one less that.
 pub enum Direction {
@@ -19,8 +19,8 @@ pub enum Direction {
     Out,
 }
 
-// A run of outputs: the filter as it is, or faded.
-pub enum Run {
+// How the filter is weighted in a run of outputs: not at all, or by the factors of a fade.
+pub enum Weighting {
     Steady,
     Fade(Direction),
 }
@@ -56,14 +56,14 @@ fn weigh_8(direction: Direction, n: usize, fade: usize, s: Lanes) -> Lanes
     }
 }
 
-// Eight values of a run, weighed as it says.
-fn weigh_in(run: Run, n: usize, fade: usize, s: Lanes) -> Lanes
-    requires { ⌜ Within run fade (n + 8) × (fade < 65536) ⌝ }
-    ensures { λ r. ⌜ r ≡ weighedIn run fade n s ⌝ }
+// Eight values, weighted so: the first is at sample n of the frame.
+fn weigh_in(weighting: Weighting, n: usize, fade: usize, s: Lanes) -> Lanes
+    requires { ⌜ Within weighting fade (n + 8) × (fade < 65536) ⌝ }
+    ensures { λ r. ⌜ r ≡ weighedIn weighting fade n s ⌝ }
 {
-    match run {
-        Run::Steady => s,
-        Run::Fade(direction) => weigh_8(direction, n, fade, s),
+    match weighting {
+        Weighting::Steady => s,
+        Weighting::Fade(direction) => weigh_8(direction, n, fade, s),
     }
 }
 
@@ -80,12 +80,14 @@ fn block_start(b: usize, len: usize) -> usize
     last
 }
 
-// Makes `len` outputs of a frame, from output `from` on. x[-16..-1] are the newest past inputs, x[0..] this
-// frame's; y[-history..-1] are the past outputs, y[0..] this frame's. `back` is how far before an output the
-// newest one lies that it is made of.
+// Makes `len` outputs of a frame, from output `from` on, by a filter of this order and lag whose 11 numerator
+// and 13 denominator coefficients stand one after the other. The lines are x[-16..-1] past inputs, x[0..nf-1]
+// this frame; y[-history..-1] past outputs, y[0..nf-1] this frame. Output n reads no output after n − back.
 pub(crate) fn filter_run(
-    run: Run,
-    taps: Taps,
+    weighting: Weighting,
+    coefficients: &[f32],
+    l_den: usize,
+    lag: usize,
     x: &[f32],
     y: &mut [f32],
     history: usize,
@@ -93,21 +95,18 @@ pub(crate) fn filter_run(
     from: usize,
     len: usize,
 )
-    requires { ⌜ Inside taps history × Within run fade (from + len) × (fade < 65536) × (8 ≤ len) × (16 + from + len ≤ length (now x)) × (history + from + len ≤ length (now y)) ⌝ }
-    ensures { λ _. ⌜ now (y .exit) ≡ grown (nextIn run history fade taps (late (history - 16) (now (x .entry)))) (now (y .entry)) (history + from) len ⌝ }
+    requires { ⌜ (length (now coefficients) ≡ 24) × Inside (readOut «l_den» lag (now coefficients)) history × Within weighting fade (from + len) × (fade < 65536) × (8 ≤ len) × (16 + from + len ≤ length (now x)) × (history + from + len ≤ length (now y)) ⌝ }
+    ensures { λ _. ⌜ now (y .exit) ≡ grown (nextIn weighting history fade (readOut «l_den» lag (now (coefficients .entry))) (padded (history - 16) (now (x .entry)))) (now (y .entry)) (history + from) len ⌝ }
 {
-    let l_den = taps.l_den;
-    let back = taps.lag.whole - l_den / 2;
-    let c_num = taps.c_num;
-    let c_den = taps.c_den;
-    let num = &c_num[..l_den - 1];
-    let den = &c_den[..l_den + 1];
+    let back = lag - l_den / 2;
+    let num = &coefficients[..l_den - 1];
+    let den = &coefficients[11..l_den + 12];
     for b in 0..(len + 7) / 8 {
         let n = from + block_start(b, len);
         let i = 16 + n;
         let at = history + n;
         let filt_out = filter_8(num, den, x, i, y, at - back);
-        let out = less_8(x, i, weigh_in(run, n, fade, filt_out));
+        let out = less_8(x, i, weigh_in(weighting, n, fade, filt_out));
         store(y, at, out);
     }
 }

@@ -6,25 +6,23 @@ use mathlib.Core.List.{List, [], _∷_}
 use native.Mathlib.Omega.{arith}
 use borrow.Author.Tests.{eqb-false}
 use lib.Ieee.{Float}
-use lib.ListN.{getD}
 use Rattle.rates.specs.Answers.{numberOf}
 use Rattle.rates.specs.declared.config.Configured.{Configured}
 use Rattle.rates.specs.declared.config.Configured.the-variants.{Config, Refused}
-use Rattle.lag.specs.declared.pitch.PitchRecord.{PitchRecord}
 use Rattle.decoder.specs.State.{fitDecoder}
 use Rattle.decoder.specs.declared.state.Decoder.{Decoder}
 use Rattle.ears.specs.InPlace.{bothApart, bothInPlace}
-use Rattle.ears.specs.declared.frame.Ear.{Ear}
+use Rattle.ears_judging.specs.declared.ear.Ear.{Ear}
 use Rattle.ears.specs.declared.frame.BothFramed.{BothFramed}
 use Rattle.ears_apart.specs.Calls.{Headset, WhichEar, leftEar, rightEar, own, Given, framedBoth, samplesOf, EarGiven, givenTo, earFramedBy}
 use Rattle.ears_apart.proofs.AsOne.{Halved, whole, asOne, refusalOf, refusal-some, whole-framed, other-framed}
 use Rattle.ears_apart.proofs.Interference.{given-halved}
-use Rattle.c_arrays.specs.Words.{whereDone}
-use Rattle.c_arrays.specs.Registers.{readRegisters, keptOf}
-use Rattle.nabiteke.specs.DecoderArrays.{DecoderArrays, arrays, numbersOf, Fits32}
-use Rattle.nabiteke.specs.EarCalls.{HeadsetArrays, headsetArrays, readHeadset, bothCall}
+use Rattle.c_arrays.specs.Words.{narrowed, whereDone}
+use Rattle.c_arrays.specs.Registers.{numbersBy}
+use Rattle.nabiteke.specs.DecoderArrays.{arrays}
+use Rattle.nabiteke.specs.EarCalls.{HeadsetArrays, headsetArrays, earOf, readHeadset, bothCall}
 use Rattle.nabiteke.proofs.DecoderFrames.{Outcome, refusal, outcome, unfit-some}
-use Rattle.nabiteke.proofs.DecoderCalls.{outcome-fits, outcome-left}
+use Rattle.nabiteke.proofs.DecoderCalls.{outcome-left}
 
 -- an ear's frame is refused with the state as it was, or done with a state that can be written
 given-outcome : (d : Decoder) (g : EarGiven) → Halved g → Outcome d (g .samples) (earFramedBy d g)
@@ -42,39 +40,27 @@ given-outcome d g h = go (whole g) refl
 pub ear-outcome : (e : WhichEar) (h : Headset) (f : Given) → Outcome (own e h) (samplesOf e (f .samples)) (earFramedBy (own e h) (givenTo e h f))
 ear-outcome e h f = given-outcome (own e h) (givenTo e h f) (given-halved e h f)
 
--- an ear as it is read from the arrays
-abbrev pub earOf : DecoderArrays → PitchRecord → Ear
-earOf a pitch = record { registers = readRegisters (a .numbers) (a .kept); «block_start_index» = getD (a .numbers) 3 0; pitch = pitch }
-
 -- what a frame of both in place leaves
 abbrev Parts : Type 0
-Parts = BothFramed × List Float × List Float × List Float × List Float × List Float
+Parts = BothFramed × List Float × List Float × List Float × List Float × List Float × List Float × List Float
 
-module _ (a : HeadsetArrays) (f : Given) (left right : Ear) (st : BothFramed) (lx ly rx ry out : List Float)
-    (from-l : left ≡ earOf (a .left) (f .left-pitch)) (from-r : right ≡ earOf (a .right) (f .right-pitch))
-    (made : _≡_ {A = Parts} (st, lx, ly, rx, ry, out)
-    (bothInPlace left (a .left .inputs) (a .left .outputs) right (a .right .inputs) (a .right .outputs) (f .numerators) (f .denominators) (f .nbits) (f .samples))) where
-  e : _≡_ {A = Parts} (st, lx, ly, rx, ry, out) (bothApart (framedBoth (readHeadset a) f))
+module _ (a : HeadsetArrays) (f : Given) (left right : Ear) (st : BothFramed) (lk lx ly rk rx ry out : List Float)
+    (from-l : left ≡ earOf (a .left .numbers) (f .left-pitch)) (from-r : right ≡ earOf (a .right .numbers) (f .right-pitch))
+    (made : _≡_ {A = Parts} (st, lk, lx, ly, rk, rx, ry, out)
+    (bothInPlace left (a .left .kept) (a .left .inputs) (a .left .outputs) right (a .right .kept) (a .right .inputs) (a .right .outputs)
+    (f .numerators) (f .denominators) (f .nbits) (f .samples))) where
+  e : _≡_ {A = Parts} (st, lk, lx, ly, rk, rx, ry, out) (bothApart (framedBoth (readHeadset a) f))
   e = rw (from-l, from-r) at made
 
-  -- the state of an ear that is done can be written
-  pub left-fits : numberOf (st .left .answer) ≡ 0 → Fits32 (st .left .registers) (st .left .«block_start_index»)
-  left-fits = outcome-fits (ear-outcome leftEar (readHeadset a) f) (st .left) (ap (λ (p : Parts). p .0 .left) e)
-
-  pub right-fits : numberOf (st .right .answer) ≡ 0 → Fits32 (st .right .registers) (st .right .«block_start_index»)
-  right-fits = outcome-fits (ear-outcome rightEar (readHeadset a) f) (st .right) (ap (λ (p : Parts). p .0 .right) e)
-
-  -- and is written, each by itself
-  pub both-left : (lw rw′ : ℕ) (ln rn : List ℕ) (lk rk : List Float) →
-      lw ≡ numberOf (st .left .answer) →
-      ln ≡ whereDone (st .left .answer) (numbersOf (st .left .registers) (st .left .«block_start_index»)) (a .left .numbers) →
-      lk ≡ whereDone (st .left .answer) (keptOf (st .left .registers)) (a .left .kept) →
-      rw′ ≡ numberOf (st .right .answer) →
-      rn ≡ whereDone (st .right .answer) (numbersOf (st .right .registers) (st .right .«block_start_index»)) (a .right .numbers) →
-      rk ≡ whereDone (st .right .answer) (keptOf (st .right .registers)) (a .right .kept) →
+  -- each ear's numbers are written, each by itself
+  pub both-left : (lw rw′ : ℕ) (ln rn : List ℕ) →
+      lw ≡ numberOf (st .left .answer) → ln ≡ whereDone (st .left .answer) (numbersBy narrowed (st .left .registers)) (a .left .numbers) →
+      rw′ ≡ numberOf (st .right .answer) → rn ≡ whereDone (st .right .answer) (numbersBy narrowed (st .right .registers)) (a .right .numbers) →
       (lw ∷ rw′ ∷ [], headsetArrays (arrays ln lk lx ly) (arrays rn rk rx ry), out) ≡ bothCall a f
   unfolding bothCall
-  both-left lw rw′ ln rn lk rk p q s u v w =
-      let x = outcome-left (a .left) (st .left) lx ly lw ln lk p q s (ear-outcome leftEar (readHeadset a) f) (ap (λ (p : Parts). p .0 .left) e) (ap (λ (p : Parts). p .1) e) (ap (λ (p : Parts). p .2) e) in
-      let y = outcome-left (a .right) (st .right) rx ry rw′ rn rk u v w (ear-outcome rightEar (readHeadset a) f) (ap (λ (p : Parts). p .0 .right) e) (ap (λ (p : Parts). p .3) e) (ap (λ (p : Parts). p .4) e) in
-      rw (x .0, x .1, y .0, y .1, ap (λ (p : Parts). p .5) e)
+  both-left lw rw′ ln rn p q u v =
+      let x = outcome-left (a .left) (st .left) lk lx ly lw ln p q (ear-outcome leftEar (readHeadset a) f)
+      (ap (λ (p : Parts). p .0 .left) e) (ap (λ (p : Parts). p .1) e) (ap (λ (p : Parts). p .2) e) (ap (λ (p : Parts). p .3) e) in
+      let y = outcome-left (a .right) (st .right) rk rx ry rw′ rn u v (ear-outcome rightEar (readHeadset a) f)
+      (ap (λ (p : Parts). p .0 .right) e) (ap (λ (p : Parts). p .4) e) (ap (λ (p : Parts). p .5) e) (ap (λ (p : Parts). p .6) e) in
+      rw (x .0, x .1, y .0, y .1, ap (λ (p : Parts). p .7) e)

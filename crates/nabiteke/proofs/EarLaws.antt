@@ -1,12 +1,12 @@
 -- BOTH EARS FROM C. `both-calls-kept`, `both-calls-seen`: whatever bytes the arrays hold, calls of both ears from C, one after the other, leave in the
 -- arrays of each ear the state that the same calls of the decoders give it, and C sees for each ear what those calls reply to it.
-use mathlib.Core.Path.{_≡_, refl, sym}
-use mathlib.Core.List.{List, [], _∷_, map, map-append}
+use mathlib.Core.Path.{_≡_, refl}
+use mathlib.Core.List.{List, map}
+use Rattle.calls.proofs.Kept.{all-kept, some-shown}
 use Rattle.settling.specs.Calls as one
-use Rattle.ears_apart.specs.Calls.{WhichEar, leftEar, rightEar, own, Call, start, loss, frame, withOwn, after, afterAll, ifOwn, replyTo, repliesTo}
+use Rattle.ears_apart.specs.Calls.{WhichEar, leftEar, rightEar, own, Call, start, loss, frame, withOwn, after, afterAll, ifOwn, replyTo, headset, repliesTo}
 use Rattle.nabiteke.specs.DecoderCalls.{arraysAfter, seen, shown}
-use Rattle.nabiteke.specs.EarCalls.{HeadsetArrays, readHeadset, bothCall, arraysOf, withArrays, bothAfter, seenFor, bothAfterAll, allSeenFor}
-use Rattle.nabiteke.proofs.Folds.{all-kept}
+use Rattle.nabiteke.specs.EarCalls.{HeadsetArrays, readHeadset, bothCall, arraysOf, withArrays, bothAfter, seenFor, inBoth, bothAfterAll, allSeenFor}
 use Rattle.nabiteke.proofs.EarCalls.{ear-outcome}
 use Rattle.nabiteke.proofs.DecoderLaws.{outcome-kept, outcome-settled, call-kept, call-seen}
 
@@ -39,10 +39,7 @@ both-call-seen rightEar a (frame f) = rw (outcome-settled (a .right) (ear-outcom
 
 -- calls one after the other
 pub both-calls-kept : (a : HeadsetArrays) (calls : List Call) → readHeadset (bothAfterAll a calls) ≡ afterAll (readHeadset a) calls
-both-calls-kept = all-kept readHeadset bothAfter after both-call-kept
+both-calls-kept = all-kept inBoth headset readHeadset both-call-kept
 
 pub both-calls-seen : (e : WhichEar) (a : HeadsetArrays) (calls : List Call) → allSeenFor e a calls ≡ map shown (repliesTo e (readHeadset a) calls)
-both-calls-seen e a [] = refl
-both-calls-seen e a (c ∷ earlier) =
-    rw (both-call-seen e (bothAfterAll a earlier) c, both-calls-kept a earlier, both-calls-seen e a earlier)
-    (sym (map-append shown (replyTo e (afterAll (readHeadset a) earlier) c) (repliesTo e (readHeadset a) earlier)))
+both-calls-seen e = some-shown inBoth headset readHeadset both-call-kept shown (seenFor e) (replyTo e) (both-call-seen e)

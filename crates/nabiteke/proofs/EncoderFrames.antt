@@ -13,8 +13,9 @@ use Rattle.rates.specs.declared.answer.Answer.the-variants.{Done, UnfitState, C
 use Rattle.rates.specs.declared.config.Lc3Config.{Lc3Config}
 use Rattle.rates.specs.declared.config.Configured.{Configured}
 use Rattle.rates.specs.declared.config.Configured.the-variants.{Config, Refused}
-use Rattle.encoder.specs.State.{fitConfig, fitBy}
-use Rattle.encoder.specs.Judge.{counted, finiteSet, judgedSet, judgedCount, judgedBits, judged}
+use Rattle.encoder_refusals.specs.Refusals.{fitBy, counted, finiteSet, judgedSet, judgedCount, judgedBits}
+use Rattle.encoder.specs.State.{fitConfig}
+use Rattle.encoder.specs.Judge.{judged}
 use Rattle.encoder.specs.Frame.{refusedFrame, encoded}
 use Rattle.encoder.specs.declared.frame.Framed.{Framed}
 use Rattle.encoder.specs.declared.state.Encoder.{Encoder}

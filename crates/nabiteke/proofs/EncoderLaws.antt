@@ -1,13 +1,14 @@
 -- THE ENCODER FROM C. `calls-kept`: whatever bytes the arrays hold, calls from C, one after the other, leave in them the state that the same calls of
--- the encoder give. `recorded`: which answers and records a frame call gives. `zero-frame`: numbers of zero bytes are answered with 9, and nothing
+-- the encoder give; `calls-answered`: and C gets what those calls give. `recorded`: which answers and records a frame call gives. `zero-frame`: numbers of zero bytes are answered with 9, and nothing
 -- changes.
 use Prim.Native.Nat.{ℕ}
-use mathlib.Core.Path.{_≡_, refl}
+use mathlib.Core.Path.{_≡_, refl, _∙_}
 use mathlib.Core.Bool.{Bool, true, false, cond}
-use mathlib.Core.List.{List, [], _∷_}
+use mathlib.Core.List.{List, [], _∷_, map-id}
 use borrow.Author.Tests.{ne-eqb}
 use lib.Ieee.{Float}
 use lib.ListN.{replicate}
+use Rattle.calls.proofs.Kept.{all-kept, each-shown}
 use Rattle.rates.specs.Answers.{numberOf}
 use Rattle.rates.specs.Table.{find}
 use Rattle.rates.specs.declared.config.Lc3Config.{Lc3Config}
@@ -25,11 +26,9 @@ use Rattle.encoder.specs.declared.frame.Framed.{Framed}
 use Rattle.encoder.specs.declared.state.Encoder.{Encoder}
 use Rattle.encoder.proofs.Frames.{Takes, decoder-takes}
 use Rattle.c_arrays.specs.Pitch.{recordOf}
-use Rattle.c_arrays.specs.EncoderState.{EncoderArrays, arrays, readEncoder}
+use Rattle.c_encoder.specs.State.{EncoderArrays, arrays, readEncoder, writtenEncoder}
 use Rattle.c_arrays.proofs.Flags.{flag-back}
-use Rattle.nabiteke.specs.EncoderArrays.{writtenEncoder}
-use Rattle.nabiteke.specs.EncoderCalls.{Given, framedBy, startCall, frameCall, handed, Call, start, frame, after, arraysAfter, afterAll, arraysAfterAll, Recorded, refused, absent, present}
-use Rattle.nabiteke.proofs.Folds.{all-kept}
+use Rattle.nabiteke.specs.EncoderCalls.{Given, framedBy, startCall, frameCall, handed, Call, start, frame, after, reply, encoder, arraysAfter, answered, inArrays, afterAll, replies, arraysAfterAll, answeredAll, Recorded, refused, absent, present}
 use Rattle.nabiteke.proofs.EncoderFrames.{Outcome, refusal, success, refused-some, outcome}
 
 -- a state that was written reads back
@@ -49,7 +48,15 @@ call-kept a (frame f) = go (framedBy (readEncoder a) f) (outcome (readEncoder a)
 
 -- calls one after the other
 pub calls-kept : (a : EncoderArrays) (calls : List Call) → readEncoder (arraysAfterAll a calls) ≡ afterAll (readEncoder a) calls
-calls-kept = all-kept readEncoder arraysAfter after call-kept
+calls-kept = all-kept inArrays encoder readEncoder call-kept
+
+call-answered : (a : EncoderArrays) (c : Call) → answered a c ≡ reply (readEncoder a) c
+unfolding startCall frameCall
+call-answered a (start rate duration) = refl
+call-answered a (frame f) = refl
+
+pub calls-answered : (a : EncoderArrays) (calls : List Call) → answeredAll a calls ≡ replies (readEncoder a) calls
+calls-answered a calls = each-shown inArrays encoder readEncoder call-kept (λ r. r) answered reply call-answered a calls ∙ map-id (replies (readEncoder a) calls)
 
 -- what is found in a frame, as a record
 found-recorded : (c : Lc3Config) (x : List Float) (d : Detected) (m : Memory) (k s : List Float) (nbits : ℕ) (near : Bool) →

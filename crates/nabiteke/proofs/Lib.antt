@@ -1,5 +1,4 @@
 -- Laws of the calls from C, and what the proofs share.
-pub mod Folds
 pub mod DecoderFrames
 pub mod DecoderCalls
 pub mod EarCalls

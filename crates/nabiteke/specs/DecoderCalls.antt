@@ -1,7 +1,9 @@
 -- The decoder's calls from C: what each answers and leaves in the arrays, by the decoder's own definitions.
 use Prim.Native.Nat.{ℕ}
-use mathlib.Core.List.{List, [], _∷_, foldr}
+use mathlib.Core.List.{List, []}
 use lib.Ieee.{Float}
+use Rattle.calls.specs.Engine as engine
+use Rattle.calls.specs.Engine.{Engine}
 use Rattle.rates.specs.Answers.{numberOf}
 use Rattle.decoder.specs.State.{started}
 use Rattle.decoder.specs.Frame.{lostFrom}
@@ -9,7 +11,8 @@ use Rattle.decoder.specs.declared.frame.Framed.{Framed}
 use Rattle.settling.specs.Calls.{Given, Call, start, frame, loss, framedBy, Reply}
 use Rattle.c_arrays.specs.Words.{asFlag, whereDone}
 use Rattle.c_arrays.specs.Pitch.{sideFrom}
-use Rattle.nabiteke.specs.DecoderArrays.{DecoderArrays, arrays, readDecoder, numbersOf, writtenDecoder}
+use Rattle.c_arrays.specs.Registers.{numbersOf}
+use Rattle.nabiteke.specs.DecoderArrays.{DecoderArrays, arrays, readDecoder, writtenDecoder}
 
 -- what a frame call is given beside the arrays
 abbrev pub given : List Float → List Float → ℕ → ℕ → ℕ → ℕ → List Float → Given
@@ -35,7 +38,7 @@ frameCall a f = handed a (framedBy (readDecoder a) f)
 abbrev pub handedNumbers : DecoderArrays → Framed → ℕ × DecoderArrays
 handedNumbers a r = (
   numberOf (r .answer),
-  arrays (whereDone (r .answer) (numbersOf (r .decoder .registers) (r .decoder .«block_start_index»)) (a .numbers)) (a .kept) (a .inputs) (a .outputs),
+  arrays (whereDone (r .answer) (numbersOf (r .decoder .registers)) (a .numbers)) (a .kept) (a .inputs) (a .outputs),
 )
 
 unfoldable pub lostCall : DecoderArrays → ℕ × DecoderArrays
@@ -43,7 +46,7 @@ lostCall a = handedNumbers a (lostFrom (readDecoder a))
 
 -- the settled report
 unfoldable pub settledCall : DecoderArrays → ℕ
-settledCall a = asFlag (readDecoder a .registers .settled)
+settledCall a = asFlag (readDecoder a .registers .marks .settled)
 
 -- What C sees of a call: its answer, the settled report after it, and the samples at exit.
 pub record Seen : Type 0 where
@@ -70,10 +73,13 @@ seen a c = record { answer = answered a c .0; settled = settledCall (arraysAfter
 abbrev pub shown : Reply → Seen
 shown r = record { answer = numberOf (r .answer); settled = asFlag (r .settled); samples = r .samples }
 
--- the arrays after all of the calls, the latest first, and what C saw of each
+-- Calls one after the other.
+abbrev pub inArrays : Engine DecoderArrays Call Seen
+inArrays = record { after = arraysAfter; reply = seen }
+
+-- the arrays after all of the calls, and what C saw of each
 abbrev pub arraysAfterAll : DecoderArrays → List Call → DecoderArrays
-arraysAfterAll a calls = foldr (λ c a. arraysAfter a c) a calls
+arraysAfterAll = engine.afterAll inArrays
 
 abbrev pub seenAll : DecoderArrays → List Call → List Seen
-seenAll a [] = []
-seenAll a (c ∷ earlier) = seen (arraysAfterAll a earlier) c ∷ seenAll a earlier
+seenAll = engine.replies inArrays

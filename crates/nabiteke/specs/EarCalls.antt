@@ -1,14 +1,18 @@
 -- Both ears from C: what a frame of both answers and leaves in the arrays of each, by the definition of the frame; and calls one after the other.
 use Prim.Native.Nat.{ℕ, _+_}
-use mathlib.Core.List.{List, [], _∷_, _++_, foldr}
+use mathlib.Core.List.{List, [], _∷_}
 use lib.Ieee.{Float}
 use lib.ListN.{getD}
+use Rattle.calls.specs.Engine as engine
+use Rattle.calls.specs.Engine.{Engine}
 use Rattle.rates.specs.Answers.{numberOf}
 use Rattle.lag.specs.declared.pitch.PitchRecord.{PitchRecord}
 use Rattle.decoder.specs.declared.frame.Framed.{Framed}
 use Rattle.settling.specs.Calls as one
 use Rattle.ears_apart.specs.Calls.{Headset, WhichEar, leftEar, rightEar, Given, Call, start, loss, frame, framedBoth, samplesOf, ifOwn}
+use Rattle.ears_judging.specs.declared.ear.Ear.{Ear}
 use Rattle.c_arrays.specs.Words.{whereDone}
+use Rattle.c_arrays.specs.Registers.{readRegisters}
 use Rattle.c_arrays.specs.Pitch.{pitchFrom}
 use Rattle.nabiteke.specs.DecoderArrays.{DecoderArrays, readDecoder, writtenDecoder}
 use Rattle.nabiteke.specs.DecoderCalls.{settledCall, Seen, arraysAfter, seen}
@@ -27,6 +31,10 @@ readHeadset a = record { left = readDecoder (a .left); right = readDecoder (a .r
 -- what a frame call is given beside the arrays: its seven numbers are the left pitch's three, the right pitch's three, and nbits
 abbrev pub pitchAt : List ℕ → ℕ → PitchRecord
 pitchAt sides i = pitchFrom (getD sides i 0) (getD sides (i + 1) 0) (getD sides (i + 2) 0)
+
+-- an ear, as a call reads it
+abbrev pub earOf : List ℕ → PitchRecord → Ear
+earOf numbers pitch = record { registers = readRegisters numbers; pitch = pitch }
 
 abbrev pub givenBoth : List Float → List Float → List ℕ → List Float → Given
 givenBoth numerators denominators sides buffer = record {
@@ -78,10 +86,13 @@ seenFor e a (frame f) = record {
   samples = samplesOf e (bothCall a f .2);
 } ∷ []
 
--- the arrays after all of the calls, the latest first, and what C saw of each for one ear
+-- Calls one after the other.
+abbrev pub inBoth : Engine HeadsetArrays Call (WhichEar → List Seen)
+inBoth = record { after = bothAfter; reply = λ a c e. seenFor e a c }
+
+-- the arrays after all of the calls, and what C saw of each for one ear
 abbrev pub bothAfterAll : HeadsetArrays → List Call → HeadsetArrays
-bothAfterAll a calls = foldr (λ c a. bothAfter a c) a calls
+bothAfterAll = engine.afterAll inBoth
 
 abbrev pub allSeenFor : WhichEar → HeadsetArrays → List Call → List Seen
-allSeenFor e a [] = []
-allSeenFor e a (c ∷ earlier) = seenFor e (bothAfterAll a earlier) c ++ allSeenFor e a earlier
+allSeenFor e = engine.some inBoth (seenFor e)

@@ -2,9 +2,11 @@
 use Prim.Native.Nat.{ℕ, _≤_}
 use mathlib.Core.Path.{_≡_}
 use mathlib.Core.Bool.{Bool}
-use mathlib.Core.List.{List, [], _∷_, foldr}
+use mathlib.Core.List.{List, [], _∷_}
 use lib.IntN.{ℤ}
 use lib.Ieee.{Float}
+use Rattle.calls.specs.Engine as engine
+use Rattle.calls.specs.Engine.{Engine}
 use Rattle.rates.specs.Answers.{numberOf}
 use Rattle.encoder.specs.State.{started}
 use Rattle.encoder.specs.Frame.{framed}
@@ -12,8 +14,7 @@ use Rattle.encoder.specs.declared.frame.Framed.{Framed}
 use Rattle.encoder.specs.declared.state.Encoder.{Encoder}
 use Rattle.c_arrays.specs.Words.{isYes, asFlag, whereDone}
 use Rattle.c_arrays.specs.Pitch.{recordOf}
-use Rattle.c_arrays.specs.EncoderState.{EncoderArrays, readEncoder}
-use Rattle.nabiteke.specs.EncoderArrays.{writtenEncoder}
+use Rattle.c_encoder.specs.State.{EncoderArrays, readEncoder, writtenEncoder}
 
 -- what a frame call is given beside the arrays
 pub record Given : Type 0 where
@@ -54,21 +55,42 @@ pub data Call : Type 0 where
   start : ℕ → ℕ → Call
   frame : Given → Call
 
--- the encoder's state after a call, and the arrays
+-- the encoder's state after a call, and what it gives: the answer, and a frame's record, as C's numbers
 abbrev pub after : Encoder → Call → Encoder
 after e (start rate duration) = started rate duration .encoder
 after e (frame f) = framedBy e f .encoder
 
+abbrev pub reply : Encoder → Call → ℕ × List ℕ
+reply e (start rate duration) = (numberOf (started rate duration .answer), [])
+reply e (frame f) = (numberOf (framedBy e f .answer), recordOf (framedBy e f .pitch) (framedBy e f .«nbits_ltpf»))
+
+abbrev pub encoder : Engine Encoder Call (ℕ × List ℕ)
+encoder = record { after = after; reply = reply }
+
+-- the arrays after a call, and the numbers that C gets
 abbrev pub arraysAfter : EncoderArrays → Call → EncoderArrays
 arraysAfter a (start rate duration) = startCall rate duration .1
 arraysAfter a (frame f) = frameCall a f .1
 
--- after all of the calls, the latest first
+abbrev pub answered : EncoderArrays → Call → ℕ × List ℕ
+answered a (start rate duration) = (startCall rate duration .0, [])
+answered a (frame f) = (frameCall a f .0, frameCall a f .2)
+
+abbrev pub inArrays : Engine EncoderArrays Call (ℕ × List ℕ)
+inArrays = record { after = arraysAfter; reply = answered }
+
+-- after all of the calls, and what each of them gave
 abbrev pub afterAll : Encoder → List Call → Encoder
-afterAll e calls = foldr (λ c e. after e c) e calls
+afterAll = engine.afterAll encoder
+
+abbrev pub replies : Encoder → List Call → List (ℕ × List ℕ)
+replies = engine.replies encoder
 
 abbrev pub arraysAfterAll : EncoderArrays → List Call → EncoderArrays
-arraysAfterAll a calls = foldr (λ c a. arraysAfter a c) a calls
+arraysAfterAll = engine.afterAll inArrays
+
+abbrev pub answeredAll : EncoderArrays → List Call → List (ℕ × List ℕ)
+answeredAll = engine.replies inArrays
 
 -- what a frame call can answer and write into its record: refused, no pitch, or a pitch that a decoder takes
 pub data Recorded : ℕ → List ℕ → Type 0 where

@@ -1,8 +1,6 @@
--- What C sees: lengths, then the decoder, with both ears, and the encoder, each first its arrays and then its calls, and a packed pitch.
-pub mod Lengths
+-- What C sees: the decoder, with both ears, and the encoder, and a packed pitch. The lengths that it asks for are defined in c_lengths.
 pub mod DecoderArrays
 pub mod DecoderCalls
 pub mod EarCalls
-pub mod EncoderArrays
 pub mod EncoderCalls
 pub mod PitchCalls

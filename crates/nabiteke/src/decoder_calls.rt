@@ -1,15 +1,11 @@
 // The decoder's functions for C.
-use crate::decoder_arrays::write_numbers;
-use crate::decoder_arrays::write_numbers_if_done;
 use c_arrays::pitch::read_side;
 use c_arrays::registers::read_registers;
-use c_arrays::registers::registers_from;
-use c_arrays::registers::write_kept;
-use c_arrays::registers::write_kept_if_done;
+use c_arrays::registers::write_numbers;
+use c_arrays::registers::write_numbers_if_done;
 use c_arrays::words::answer_word;
 use c_arrays::words::as_flag;
 use c_arrays::words::is_yes;
-use c_arrays::words::wide;
 use decoder::frame::frame_in_place;
 use decoder::frame::lost_in_place;
 use decoder::state::start;
@@ -35,10 +31,11 @@ pub extern "C" fn nabiteke_decoder_start_(
     let answer = started.answer;
     let decoder = started.decoder;
     let registers = decoder.registers;
+    let next_kept = decoder.kept;
     let x_hat_mem = decoder.x_hat_mem;
     let x_hat_ltpf_mem = decoder.x_hat_ltpf_mem;
-    write_numbers(numbers, registers, decoder.block_start_index);
-    write_kept(kept, registers);
+    write_numbers(numbers, registers);
+    *kept = next_kept;
     *inputs = x_hat_mem;
     *outputs = x_hat_ltpf_mem;
     answer_word(answer)
@@ -61,12 +58,11 @@ pub extern "C" fn nabiteke_decoder_frame_(
 ) -> u32
     ensures { λ r. ⌜ (r, arrays (now (numbers .exit)) (now (kept .exit)) (now (inputs .exit)) (now (outputs .exit)), now (samples .exit)) ≡ frameCall (arrays (now (numbers .entry)) (now (kept .entry)) (now (inputs .entry)) (now (outputs .entry))) (given (now (numerators .entry)) (now (denominators .entry)) «pitch_present» «pitch_index» «pitch_active» nbits (now (samples .entry))) ⌝ }
 {
-    let registers = read_registers(numbers, kept);
-    let block_start_index = wide(numbers[3]);
+    let registers = read_registers(numbers);
     let side = read_side(pitch_present, pitch_index, pitch_active, nbits);
     let framed = frame_in_place(
         registers,
-        block_start_index,
+        kept,
         inputs,
         outputs,
         numerators,
@@ -74,7 +70,6 @@ pub extern "C" fn nabiteke_decoder_frame_(
         side,
         samples,
     );
-    write_kept_if_done(kept, framed);
     write_numbers_if_done(numbers, framed)
 }
 
@@ -83,8 +78,8 @@ pub extern "C" fn nabiteke_decoder_frame_(
 pub extern "C" fn nabiteke_decoder_lost_(numbers: &mut [u32; 8]) -> u32
     ensures { λ r. ⌜ ((kept inputs outputs : List Float) → (r, arrays (now (numbers .exit)) kept inputs outputs) ≡ lostCall (arrays (now (numbers .entry)) kept inputs outputs)) ⌝ }
 {
-    let registers = registers_from(numbers, [0.0; 11], [0.0; 13]);
-    let marked = lost_in_place(registers, wide(numbers[3]));
+    let registers = read_registers(numbers);
+    let marked = lost_in_place(registers);
     write_numbers_if_done(numbers, marked)
 }
 

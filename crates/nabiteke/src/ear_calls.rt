@@ -1,44 +1,23 @@
 // The function for C that decodes a frame of both ears. Starts, loss marks and settled reports are the decoder's own, on
 // the arrays of each ear.
-use crate::decoder_arrays::write_numbers_if_done;
 use c_arrays::pitch::pitch_from;
 use c_arrays::registers::read_registers;
-use c_arrays::registers::write_kept_if_done;
-use c_arrays::words::wide;
-use decoder::frame::FramedInPlace;
-use ears::frame::Ear;
+use c_arrays::registers::write_numbers_if_done;
 use ears::frame::frame_both;
+use ears_judging::ear::Ear;
 ghost use Prim.Native.Nat.{_≤_};
 ghost use mathlib.Core.Path.{_≡_};
-ghost use lib.ListN.{getD};
-ghost use Rattle.rates.specs.Answers.{numberOf};
-ghost use Rattle.c_arrays.specs.Words.{whereDone};
-ghost use Rattle.c_arrays.specs.Registers.{readRegisters, keptOf};
-ghost use Rattle.nabiteke.specs.DecoderArrays.{arrays, numbersOf, Fits32};
-ghost use Rattle.nabiteke.specs.EarCalls.{pitchAt, headsetArrays, givenBoth, bothCall};
+ghost use Rattle.nabiteke.specs.DecoderArrays.{arrays};
+ghost use Rattle.nabiteke.specs.EarCalls.{pitchAt, earOf, headsetArrays, givenBoth, bothCall};
 
-// An ear in the caller's arrays, with its pitch: the three numbers from `at` on.
-fn read_ear(numbers: &[u32; 8], kept: &[f32; 24], sides: &[u32; 7], at: usize) -> Ear
+// An ear in the caller's numbers, with its pitch: the three numbers from `at` on.
+fn read_ear(numbers: &[u32; 8], sides: &[u32; 7], at: usize) -> Ear
     requires { ⌜ at ≤ 4 ⌝ }
-    ensures { λ r. ⌜ r ≡ record { registers = readRegisters (now (numbers .entry)) (now (kept .entry)); «block_start_index» = getD (now (numbers .entry)) 3 0; pitch = pitchAt (now (sides .entry)) at } ⌝ }
+    ensures { λ r. ⌜ r ≡ earOf (now (numbers .entry)) (pitchAt (now (sides .entry)) at) ⌝ }
 {
-    let registers = read_registers(numbers, kept);
-    let block_start_index = wide(numbers[3]);
+    let registers = read_registers(numbers);
     let pitch = pitch_from(sides[at], sides[at + 1], sides[at + 2]);
-    Ear {
-        registers,
-        block_start_index,
-        pitch,
-    }
-}
-
-// Puts an ear's next state into the caller's arrays, where its call is done. Gives the number of its answer.
-fn write_ear(numbers: &mut [u32; 8], kept: &mut [f32; 24], result: FramedInPlace) -> u32
-    requires { ⌜ (numberOf (result .answer) ≡ 0 → Fits32 (result .registers) (result .«block_start_index»)) ⌝ }
-    ensures { λ r. ⌜ (r ≡ numberOf (result .answer)) × (now (numbers .exit) ≡ whereDone (result .answer) (numbersOf (result .registers) (result .«block_start_index»)) (now (numbers .entry))) × (now (kept .exit) ≡ whereDone (result .answer) (keptOf (result .registers)) (now (kept .entry))) ⌝ }
-{
-    write_kept_if_done(kept, result);
-    write_numbers_if_done(numbers, result)
+    Ear { registers, pitch }
 }
 
 // Filters one frame of both ears in place. The seven numbers are the left pitch's three, the right pitch's, and nbits.
@@ -60,13 +39,15 @@ pub extern "C" fn nabiteke_decoder_frame_both_(
 )
     ensures { λ _. ⌜ (now (answers .exit), headsetArrays (arrays (now («left_numbers» .exit)) (now («left_kept» .exit)) (now («left_inputs» .exit)) (now («left_outputs» .exit))) (arrays (now («right_numbers» .exit)) (now («right_kept» .exit)) (now («right_inputs» .exit)) (now («right_outputs» .exit))), now (samples .exit)) ≡ bothCall (headsetArrays (arrays (now («left_numbers» .entry)) (now («left_kept» .entry)) (now («left_inputs» .entry)) (now («left_outputs» .entry))) (arrays (now («right_numbers» .entry)) (now («right_kept» .entry)) (now («right_inputs» .entry)) (now («right_outputs» .entry)))) (givenBoth (now (numerators .entry)) (now (denominators .entry)) (now (sides .entry)) (now (samples .entry))) ⌝ }
 {
-    let left = read_ear(left_numbers, left_kept, sides, 0);
-    let right = read_ear(right_numbers, right_kept, sides, 3);
+    let left = read_ear(left_numbers, sides, 0);
+    let right = read_ear(right_numbers, sides, 3);
     let both = frame_both(
         left,
+        left_kept,
         left_inputs,
         left_outputs,
         right,
+        right_kept,
         right_inputs,
         right_outputs,
         numerators,
@@ -76,7 +57,7 @@ pub extern "C" fn nabiteke_decoder_frame_both_(
     );
     let left_result = both.left;
     let right_result = both.right;
-    let left_answer = write_ear(left_numbers, left_kept, left_result);
-    let right_answer = write_ear(right_numbers, right_kept, right_result);
+    let left_answer = write_numbers_if_done(left_numbers, left_result);
+    let right_answer = write_numbers_if_done(right_numbers, right_result);
     *answers = [left_answer, right_answer];
 }

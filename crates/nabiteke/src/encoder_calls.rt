@@ -1,15 +1,15 @@
 // The encoder's functions for C.
-use crate::encoder_arrays::write_numbers;
-use crate::encoder_arrays::write_numbers_if_done;
-use c_arrays::encoder_state::read_encoder;
-use c_arrays::encoder_state::write_floats;
-use c_arrays::encoder_state::write_floats_if_done;
 use c_arrays::pitch::write_record;
 use c_arrays::words::answer_word;
 use c_arrays::words::is_yes;
+use c_encoder::state::read_encoder;
+use c_encoder::state::write_floats;
+use c_encoder::state::write_floats_if_done;
+use c_encoder::state::write_numbers;
+use c_encoder::state::write_numbers_if_done;
 use encoder::state::start;
 ghost use mathlib.Core.Path.{_≡_};
-ghost use Rattle.c_arrays.specs.EncoderState.{arrays};
+ghost use Rattle.c_encoder.specs.State.{arrays};
 ghost use Rattle.nabiteke.specs.EncoderCalls.{given, startCall, frameCall};
 
 // Starts an encoder, or starts it anew.

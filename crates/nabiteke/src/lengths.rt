@@ -1,20 +1,16 @@
 // What a caller has to know before its first frame: how long a frame and the coefficient arrays are.
-use rates::config::Configured;
-use rates::config::config;
-use rates::table::FoundRate;
-use rates::table::row_of;
+use c_lengths::denominator_count;
+use c_lengths::frame_length;
+use c_lengths::numerator_count;
 ghost use mathlib.Core.Path.{_≡_};
-ghost use Rattle.nabiteke.specs.Lengths.{frameLength, numeratorCount, denominatorCount};
+ghost use Rattle.c_lengths.specs.Lengths.{frameLength, numeratorCount, denominatorCount};
 
 // The samples of a frame, 0 where the rate or the duration is unknown.
 #[no_mangle]
 pub extern "C" fn nabiteke_frame_length(rate: u32, duration: u32) -> usize
     ensures { λ r. ⌜ r ≡ frameLength rate duration ⌝ }
 {
-    match config(rate, duration) {
-        Configured::Config(found) => found.nf,
-        Configured::Refused(_) => 0,
-    }
+    frame_length(rate, duration)
 }
 
 // The entries of a rate's four numerator rows, 0 where the rate is unknown.
@@ -22,10 +18,7 @@ pub extern "C" fn nabiteke_frame_length(rate: u32, duration: u32) -> usize
 pub extern "C" fn nabiteke_numerator_count(rate: u32) -> usize
     ensures { λ r. ⌜ r ≡ numeratorCount rate ⌝ }
 {
-    match row_of(rate) {
-        FoundRate::Row(found) => 4 * (found.l_den - 1),
-        FoundRate::Unknown => 0,
-    }
+    numerator_count(rate)
 }
 
 // The entries of a rate's four denominator rows, 0 where the rate is unknown.
@@ -33,8 +26,5 @@ pub extern "C" fn nabiteke_numerator_count(rate: u32) -> usize
 pub extern "C" fn nabiteke_denominator_count(rate: u32) -> usize
     ensures { λ r. ⌜ r ≡ denominatorCount rate ⌝ }
 {
-    match row_of(rate) {
-        FoundRate::Row(found) => 4 * (found.l_den + 1),
-        FoundRate::Unknown => 0,
-    }
+    denominator_count(rate)
 }

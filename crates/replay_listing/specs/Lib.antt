@@ -1,3 +1,3 @@
 -- The listing of a replay: the rules without samples and coefficients, and the machine.
-pub mod Bare
+pub mod ByMarks
 pub mod Machine

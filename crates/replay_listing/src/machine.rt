@@ -1,8 +1,8 @@
 // The replay in calls, in constant memory: it takes the recording in pieces of any size, line by line, and writes the
 // rows into whatever space it is lent.
 use cells::cell::put_text;
-use control::registers::Registers;
-use control::registers::clear;
+use control::marks::Marks;
+use control::marks::clear;
 use lines::held::Held;
 use lines::held::count;
 use lines::held::take_line;
@@ -15,7 +15,7 @@ ghost use Prim.Native.Nat.{_≤_};
 ghost use lib.ListN.{length, take};
 ghost use Rattle.lines.specs.Machine.{heldLine};
 ghost use Rattle.cells.specs.Texts.{Written};
-ghost use Rattle.replay_listing.specs.Bare.{header, replayedLine};
+ghost use Rattle.replay_listing.specs.ByMarks.{header, replayedLine};
 ghost use Rattle.replay_listing.specs.Machine.{begun, after, text, taken, lastText};
 
 // What is known between two lines: the number of the next one, the last frame that counted, and what the decoder
@@ -23,7 +23,7 @@ ghost use Rattle.replay_listing.specs.Machine.{begun, after, text, taken
 pub struct Replay {
     pub line: u64,
     pub last: Last,
-    pub registers: Registers,
+    pub marks: Marks,
 }
 
 // The replay with what is held of the line that is being read.
@@ -56,7 +56,7 @@ pub fn begin() -> Listing
         replay: Replay {
             line: 1,
             last: Last::None,
-            registers: clear(48000, 10000),
+            marks: clear(48000, 10000),
         },
         held: Held {
             bytes: [0; 32],
@@ -82,18 +82,18 @@ fn replay_held(replay: Replay, held: Held) -> Replayed
     ensures { λ r. ⌜ r ≡ replayedLine replay (heldLine held) ⌝ }
 {
     let last = replay.last;
-    let registers = replay.registers;
+    let marks = replay.marks;
     let n = count(held);
     let bytes = held.bytes;
-    let stepped = step(last, registers, &bytes[..n]);
+    let stepped = step(last, marks, &bytes[..n]);
     let next_last = stepped.last;
-    let next_registers = stepped.registers;
+    let next_marks = stepped.marks;
     let row = stepped.row;
     Replayed {
         replay: Replay {
             line: std::num::wrapping_add_u64(replay.line, 1),
             last: next_last,
-            registers: next_registers,
+            marks: next_marks,
         },
         row,
     }

@@ -4,10 +4,10 @@ use Prim.Native.Nat.{ℕ}
 use mathlib.Core.Path.{_≡_, sym, ap, _∙_}
 use mathlib.Core.Bool.{Bool}
 use native.Mathlib.Omega.{arith}
-use Rattle.control.specs.Judge.{planOf}
-use Rattle.control.specs.declared.judge.SideInfo.{SideInfo}
-use Rattle.control.specs.declared.judge.Verdict.{Verdict}
-use Rattle.control.proofs.Judging.{declined, passed, verdict}
+use Rattle.judging.specs.Judge.{planOf}
+use Rattle.judging.specs.declared.plan.SideInfo.{SideInfo}
+use Rattle.judging.specs.declared.plan.Verdict.{Verdict}
+use Rattle.judging.proofs.Judging.{declined, passed, verdict}
 use Rattle.decoder.specs.Frame.{accepted, done, framedWith, framed}
 use Rattle.decoder.specs.declared.state.Decoder.{Decoder}
 use Rattle.settling.specs.Calls.{frame, framedBy, reply, FitState}
@@ -32,11 +32,11 @@ as-shown setting d fit side c e =
     settled = reply d (frame (given setting side)) .settled
 
     go : (o : OutcomeOf (setting .config) (given setting side)) →
-        let v = verdict (setting .config) (setting .numerators) (setting .denominators) side (zeros setting) (d .registers) o in
+        let v = verdict (setting .config) (setting .numerators) (setting .denominators) side (zeros setting) (d .registers .marks) o in
         shownBy v (side .pitch) settled ≡ Shown.Columns c →
         framedWith d (setting .numerators) (setting .denominators) (zeros setting) v ≡
         done (accepted d (shownPlan setting c) (setting .numerators) (setting .denominators) (zeros setting))
     go (declined answer l h) q = let z : _≡_ {A = ℕ} 0 1 = cc in absurd (omega arith)
     go (passed lag p) q =
-        let same : columnsOf (planOf (d .registers) (setting .config) side lag) (side .pitch) settled ≡ c = cc in
+        let same : columnsOf (planOf (d .registers .marks) (setting .config) side lag) (side .pitch) settled ≡ c = cc in
         ap (λ (x : Columns). done (accepted d (shownPlan setting x) (setting .numerators) (setting .denominators) (zeros setting))) same

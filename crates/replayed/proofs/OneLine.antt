@@ -4,7 +4,7 @@ use mathlib.Core.Path.{_≡_, refl, sym, ap, _∙_}
 use mathlib.Core.Bool.{Bool, true, false, cond}
 use mathlib.Core.List.{List, [], _∷_, _++_}
 use Rattle.rates.specs.declared.answer.Answer.the-variants.{WrongFrameNumber}
-use Rattle.control.specs.declared.registers.Registers.{Registers}
+use Rattle.control.specs.declared.marks.Marks.{Marks}
 use Rattle.settling.specs.Calls.{FitState}
 use Rattle.lines.specs.Listings.{afterLines, rowsFrom}
 use Rattle.entries.specs.Lines.{lineRead}
@@ -14,16 +14,16 @@ use Rattle.replaying.specs.Steps.{follows, skipped, counted, steppedEntry, step
 use Rattle.replaying.specs.declared.frame.Row.{Row}
 use Rattle.replay_rows.specs.Rows.{rowText}
 use Rattle.replay_listing.specs.declared.machine.Replay.{Replay}
-use Rattle.replay_listing.specs.Bare.{replayedAs, replayedLine}
+use Rattle.replay_listing.specs.ByMarks.{replayedAs, replayedLine}
 use Rattle.replayed.specs.Whole.{Setting, Usable, Between, skippedLine, calledRow, countedLine, movedBy, rowOf, replayRules}
-use Rattle.replayed.specs.Made.{bare, bareOf, bareRulesOf}
+use Rattle.replayed.specs.Made.{marksOf, marksRulesOf}
 use Rattle.replayed.proofs.OneCall.{SameCall, same-call}
 
 module _ (setting : Setting) (usable : Usable setting) where
   -- a line, by what it says
   pub record SameLine (s : Between) (l : Line) : Type 0 where
-    pub row : steppedLine (s .last) (bare (s .decoder .registers)) l .row ≡ rowOf setting s l
-    pub kept : replayedAs (s .line) (steppedLine (s .last) (bare (s .decoder .registers)) l) .replay ≡ bareOf (movedBy setting s l)
+    pub row : steppedLine (s .last) (s .decoder .registers .marks) l .row ≡ rowOf setting s l
+    pub kept : replayedAs (s .line) (steppedLine (s .last) (s .decoder .registers .marks) l) .replay ≡ marksOf (movedBy setting s l)
     pub stays-fit : FitState (setting .config) (movedBy setting s l .decoder)
 
   pub same-line : (s : Between) → FitState (setting .config) (s .decoder) → (l : Line) → SameLine s l
@@ -31,8 +31,8 @@ module _ (setting : Setting) (usable : Usable setting) where
   same-line s fit Line.Malformed = record { row = refl; kept = refl; stays-fit = fit }
   same-line s fit (Line.Entry e) = let b = follows (s .last) (e .frame) in record { row = row b; kept = kept b; stays-fit = stays-fit b }
     where
-      r : Registers
-      r = bare (s .decoder .registers)
+      r : Marks
+      r = s .decoder .registers .marks
 
       called : SameCall setting usable (s .decoder) fit (e .content)
       called = same-call setting usable (s .decoder) fit (e .content)
@@ -45,8 +45,8 @@ module _ (setting : Setting) (usable : Usable setting) where
 
       kept : (b : Bool) →
           replayedAs (s .line) (cond b (counted (e .frame) (replayedContent r (e .content))) (skipped (s .last) r WrongFrameNumber)) .replay ≡
-          bareOf (cond b (countedLine setting s (e .frame) (e .content)) (skippedLine s))
-      kept true = rw (← called .registers)
+          marksOf (cond b (countedLine setting s (e .frame) (e .content)) (skippedLine s))
+      kept true = rw (← called .marks)
       kept false = refl
 
       stays-fit : (b : Bool) → FitState (setting .config) (cond b (countedLine setting s (e .frame) (e .content)) (skippedLine s) .decoder)
@@ -54,23 +54,23 @@ module _ (setting : Setting) (usable : Usable setting) where
       stays-fit false = fit
 
   -- any number of lines
-  pub same-rows : (s : Between) → FitState (setting .config) (s .decoder) → (ls : List (List ℕ)) → rowsFrom (bareRulesOf setting) (bareOf s) ls ≡ rowsFrom (replayRules setting) s ls
+  pub same-rows : (s : Between) → FitState (setting .config) (s .decoder) → (ls : List (List ℕ)) → rowsFrom (marksRulesOf setting) (marksOf s) ls ≡ rowsFrom (replayRules setting) s ls
   unfolding rowsFrom replayedLine
   same-rows s fit [] = refl
   same-rows s fit (line ∷ rest) =
       let same = same-line s fit (lineRead line) in
       let next = movedBy setting s (lineRead line) in
       let shown = rowText (s .line) (rowOf setting s (lineRead line)) in
-      ap (λ (x : Row). rowText (s .line) x ++ rowsFrom (bareRulesOf setting) (replayedLine (bareOf s) line .replay) rest) (same .row) ∙
-      ap (λ (p : Replay). shown ++ rowsFrom (bareRulesOf setting) p rest) (same .kept) ∙ ap (λ (t : List ℕ). shown ++ t) (same-rows next (same .stays-fit) rest)
+      ap (λ (x : Row). rowText (s .line) x ++ rowsFrom (marksRulesOf setting) (replayedLine (marksOf s) line .replay) rest) (same .row) ∙
+      ap (λ (p : Replay). shown ++ rowsFrom (marksRulesOf setting) p rest) (same .kept) ∙ ap (λ (t : List ℕ). shown ++ t) (same-rows next (same .stays-fit) rest)
 
   pub same-states : (s : Between) → FitState (setting .config) (s .decoder) → (ls : List (List ℕ)) →
-      afterLines (bareRulesOf setting) (bareOf s) ls ≡ bareOf (afterLines (replayRules setting) s ls)
+      afterLines (marksRulesOf setting) (marksOf s) ls ≡ marksOf (afterLines (replayRules setting) s ls)
   unfolding afterLines replayedLine
   same-states s fit [] = refl
   same-states s fit (line ∷ rest) =
       let same = same-line s fit (lineRead line) in
-      ap (λ (p : Replay). afterLines (bareRulesOf setting) p rest) (same .kept) ∙ same-states (movedBy setting s (lineRead line)) (same .stays-fit) rest
+      ap (λ (p : Replay). afterLines (marksRulesOf setting) p rest) (same .kept) ∙ same-states (movedBy setting s (lineRead line)) (same .stays-fit) rest
 
   pub lines-fit : (s : Between) → FitState (setting .config) (s .decoder) → (ls : List (List ℕ)) → FitState (setting .config) (afterLines (replayRules setting) s ls .decoder)
   unfolding afterLines

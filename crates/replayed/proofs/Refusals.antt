@@ -13,9 +13,9 @@ use lib.Dec.{eqb, leb}
 use Rattle.rates.specs.Answers.{numberOf}
 use Rattle.rates.specs.declared.answer.Answer.the-variants.{WrongFrameNumber, TooManyBits}
 use Rattle.lag.specs.declared.rescale.FoundLag.{FoundLag}
-use Rattle.control.specs.Pitch.{lagFor}
-use Rattle.control.specs.Judge.{unless, lagJudged, judgedSide, judged}
-use Rattle.control.specs.declared.judge.Verdict.{Verdict}
+use Rattle.judging.specs.Pitch.{lagFor}
+use Rattle.judging.specs.Judge.{unless, lagJudged, judgedSide, judged}
+use Rattle.judging.specs.declared.plan.Verdict.{Verdict}
 use Rattle.decoder.specs.State.{fitDecoder}
 use Rattle.decoder.specs.Frame.{framedWith, framed}
 use Rattle.decoder.specs.declared.state.Decoder.{Decoder}
@@ -31,7 +31,7 @@ use Rattle.replaying.specs.Frames.{dashedRow}
 use Rattle.replaying.specs.Steps.{follows}
 use Rattle.replaying.specs.declared.step.Last.{Last}
 use Rattle.replayed.specs.Whole.{Setting, Usable, Between, skippedLine, given, callOf, calledRow, countedLine, movedBy, rowOf}
-use Rattle.replayed.proofs.OneCall.{same-verdict, bare-verdict}
+use Rattle.replayed.proofs.OneCall.{same-verdict, marks-verdict}
 
 abbrev pub among : ℕ → Bool
 among n = eqb n 0 || eqb n 6 || eqb n 7 || eqb n 10 || eqb n 11
@@ -43,11 +43,11 @@ module _ (setting : Setting) (usable : Usable setting) (d : Decoder) (fit : FitS
   called-among Content.Lost = rw (lost-done (setting .config) d fit)
   called-among (Content.Frame side) =
       ap (λ (v : Verdict). among (numberOf (framedWith d (setting .numerators) (setting .denominators) (given setting side .samples) v .0 .answer)))
-      (same-verdict setting usable d fit side ∙ bare-verdict setting usable d fit side) ∙
+      (same-verdict setting usable d fit side ∙ marks-verdict setting usable d fit side) ∙
       go (leb (side .nbits) 3200) (lagFor (setting .config .fs) (side .pitch))
     where
       go : (b : Bool) (l : FoundLag) →
-          let v = unless b TooManyBits (lagJudged (d .registers) (setting .config) side l) in
+          let v = unless b TooManyBits (lagJudged (d .registers .marks) (setting .config) side l) in
           among (numberOf (framedWith d (setting .numerators) (setting .denominators) (given setting side .samples) v .0 .answer)) ≡ true
       go false l = refl
       go true FoundLag.IndexTooLarge = refl
@@ -58,7 +58,7 @@ module _ (setting : Setting) (usable : Usable setting) (d : Decoder) (fit : FitS
   unfolding framed
   called-refused Content.Lost some = absurd (omega (arith, ap (λ r. numberOf (r .answer)) (lost-done (setting .config) d fit)))
   called-refused (Content.Frame side) some =
-      go (judged (d .registers) (fitDecoder d) (setting .numerators) (setting .denominators) side (given setting side .samples)) some
+      go (judged (d .registers .marks) (fitDecoder d) (setting .numerators) (setting .denominators) side (given setting side .samples)) some
     where
       go : (v : Verdict) → 1 ≤ numberOf (framedWith d (setting .numerators) (setting .denominators) (given setting side .samples) v .0 .answer) →
           framedWith d (setting .numerators) (setting .denominators) (given setting side .samples) v .0 .decoder ≡ d

@@ -13,10 +13,10 @@ use Rattle.lag.specs.declared.rescale.FoundLag.{FoundLag}
 use Rattle.lag.specs.declared.rescale.RoundedLag.{RoundedLag}
 use Rattle.lag.specs.declared.rescale.LookedUpLag.{LookedUpLag}
 use Rattle.lag.proofs.Rounding.{lagAlone, same-lag}
-use Rattle.control.specs.Pitch.{isActive, lagWhere, lagFor}
-use Rattle.control.specs.declared.judge.SideInfo.{SideInfo}
-use Rattle.control.specs.declared.judge.Verdict.{Verdict}
-use Rattle.control.proofs.Judging.{declined, passed, verdict}
+use Rattle.judging.specs.Pitch.{isActive, lagWhere, lagFor}
+use Rattle.judging.specs.declared.plan.SideInfo.{SideInfo}
+use Rattle.judging.specs.declared.plan.Verdict.{Verdict}
+use Rattle.judging.proofs.Judging.{declined, passed, verdict}
 use Rattle.decoder.specs.declared.state.Decoder.{Decoder}
 use Rattle.settling.specs.Calls.{frame, reply, FitState}
 use Rattle.settling.proofs.Judging.{OutcomeOf}
@@ -56,7 +56,7 @@ rounding-column setting d fit side c e =
     settled = reply d (frame (given setting side)) .settled
 
     go : (o : OutcomeOf (setting .config) (given setting side)) →
-        shownBy (verdict (setting .config) (setting .numerators) (setting .denominators) side (zeros setting) (d .registers) o) (side .pitch) settled ≡ Shown.Columns c →
+        shownBy (verdict (setting .config) (setting .numerators) (setting .denominators) side (zeros setting) (d .registers .marks) o) (side .pitch) settled ≡ Shown.Columns c →
         OneLookup (setting .config .fs) (side .pitch) c
     go (declined answer l h) q = let z : _≡_ {A = ℕ} 0 1 = cc in absurd (omega arith)
     go (passed lag p) q = subst (λ (s : Shown). Of s) q (of-found (setting .config .fs) (side .pitch) _ refl refl (p .found))

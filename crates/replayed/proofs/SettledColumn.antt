@@ -7,8 +7,8 @@ use mathlib.Core.List.{List, [], _∷_, _++_}
 use native.Mathlib.Omega.{arith}
 use Rattle.rates.specs.declared.answer.Answer.the-variants.{WrongFrameNumber}
 use Rattle.control.specs.State.{settledLimit}
-use Rattle.control.specs.Judge.{judged}
-use Rattle.control.specs.declared.judge.Verdict.{Verdict}
+use Rattle.judging.specs.Judge.{judged}
+use Rattle.judging.specs.declared.plan.Verdict.{Verdict}
 use Rattle.decoder.specs.State.{fitDecoder}
 use Rattle.decoder.specs.declared.state.Decoder.{Decoder}
 use Rattle.settling.specs.Calls.{Call, after, reply, fromStart, eventsFrom, settledBy, FitState}
@@ -68,7 +68,7 @@ module _ (setting : Setting) (usable : Usable setting) where
   shown-settled : (d : Decoder) (content : Content) (c : Columns) → shownOf setting d content ≡ Shown.Columns c → c .settled ≡ reply d (callOf setting content) .settled
   shown-settled d Content.Lost c e = let z : _≡_ {A = ℕ} 0 1 = cc in absurd (omega arith)
   shown-settled d (Content.Frame side) c e =
-      go (judged (d .registers) (fitDecoder d) (setting .numerators) (setting .denominators) side (given setting side .samples)) e
+      go (judged (d .registers .marks) (fitDecoder d) (setting .numerators) (setting .denominators) side (given setting side .samples)) e
     where
       go : (v : Verdict) → shownBy v (side .pitch) (reply d (callOf setting (Content.Frame side)) .settled) ≡ Shown.Columns c →
           c .settled ≡ reply d (callOf setting (Content.Frame side)) .settled

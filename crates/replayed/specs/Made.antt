@@ -2,10 +2,7 @@
 use Prim.Native.Nat.{ℕ}
 use mathlib.Core.Bool.{cond}
 use mathlib.Core.List.{List, [], _∷_}
-use lib.ListN.{replicate}
-use Rattle.floats.specs.Single.{0·0}
-use Rattle.control.specs.declared.registers.Registers.{Registers}
-use Rattle.control.specs.declared.judge.Plan.{Plan}
+use Rattle.judging.specs.declared.plan.Plan.{Plan}
 use Rattle.settling.specs.Calls.{Call}
 use Rattle.lines.specs.Listings.{Rules}
 use Rattle.entries.specs.Lines.{lineRead}
@@ -13,30 +10,17 @@ use Rattle.entries.specs.declared.line.Line.{Line}
 use Rattle.replaying.specs.Steps.{follows}
 use Rattle.replaying.specs.declared.frame.Columns.{Columns}
 use Rattle.replaying.specs.declared.step.Last.{Last}
-use Rattle.replay_listing.specs.Bare.{bareRulesAt}
+use Rattle.replay_listing.specs.ByMarks.{marksRulesAt}
 use Rattle.replay_listing.specs.declared.machine.Replay.{Replay}
 use Rattle.replayed.specs.Whole.{Setting, Between, callOf, movedBy}
 
--- the registers with coefficients of 0.0 in place of those of a set
-abbrev pub bare : Registers → Registers
-bare r = record {
-  rate = r .rate;
-  duration = r .duration;
-  «ltpf_active_prev» = r .«ltpf_active_prev»;
-  «c_num» = replicate 11 0·0;
-  «c_den» = replicate 13 0·0;
-  lag = r .lag;
-  run = r .run;
-  settled = r .settled;
-}
-
 -- what the replay without samples and coefficients keeps of all that
-abbrev pub bareOf : Between → Replay
-bareOf s = record { line = s .line; last = s .last; registers = bare (s .decoder .registers) }
+abbrev pub marksOf : Between → Replay
+marksOf s = record { line = s .line; last = s .last; marks = s .decoder .registers .marks }
 
 -- its rules, at the setting's rate and duration
-abbrev pub bareRulesOf : Setting → Rules
-bareRulesOf setting = bareRulesAt (setting .rate) (setting .duration)
+abbrev pub marksRulesOf : Setting → Rules
+marksRulesOf setting = marksRulesAt (setting .rate) (setting .duration)
 
 -- the plan of a frame that its row shows
 abbrev pub shownPlan : Setting → Columns → Plan

@@ -14,9 +14,9 @@ use Rattle.rates.specs.declared.duration.FrameDuration.the-variants.{TenMs}
 use Rattle.rates.specs.declared.config.Lc3Config.{Lc3Config}
 use Rattle.rates.specs.declared.config.Configured.the-variants.{Config}
 use Rattle.lag.specs.declared.pitch.PitchRecord.{PitchRecord}
-use Rattle.control.specs.Judge.{setCounts, setFinite, judged}
-use Rattle.control.specs.declared.judge.SideInfo.{SideInfo}
-use Rattle.control.specs.declared.judge.Verdict.{Verdict}
+use Rattle.judging.specs.Judge.{setCounts, setFinite, judged}
+use Rattle.judging.specs.declared.plan.SideInfo.{SideInfo}
+use Rattle.judging.specs.declared.plan.Verdict.{Verdict}
 use Rattle.decoder.specs.State.{started, fitDecoder}
 use Rattle.decoder.specs.declared.state.Decoder.{Decoder}
 use Rattle.settling.specs.Calls.{Given, Call, frame, loss, after, reply}
@@ -30,7 +30,7 @@ use Rattle.replaying.specs.declared.frame.Shown.{Shown}
 use Rattle.replaying.specs.declared.frame.Row.{Row}
 use Rattle.replaying.specs.declared.step.Last.{Last}
 use Rattle.replay_rows.specs.Rows.{rowText}
-use Rattle.replay_listing.specs.Bare.{header}
+use Rattle.replay_listing.specs.ByMarks.{header}
 
 -- what a replay is made with: a rate and a duration, the lengths that they fix, and a lent coefficient set
 pub record Setting : Type 0 where
@@ -43,7 +43,7 @@ pub record Setting : Type 0 where
 -- one that a decoder takes: the table has the rate and the duration, the set has their lengths, and each entry is finite
 pub record Usable (setting : Setting) : Type 0 where
   pub known : configOf (setting .rate) (setting .duration) ≡ Config (setting .config)
-  pub counts : setCounts (setting .config) (setting .numerators) (setting .denominators) ≡ true
+  pub counts : setCounts (setting .config .fs .«l_den») (setting .numerators) (setting .denominators) ≡ true
   pub finite : setFinite (setting .numerators) (setting .denominators) ≡ true
 
 -- the setting of the listing: 48000 Hz and 10 ms, with any set
@@ -93,7 +93,7 @@ module _ (setting : Setting) where
   abbrev pub shownOf : Decoder → Content → Shown
   shownOf d Content.Lost = Shown.Dashes
   shownOf d (Content.Frame side) =
-      shownBy (judged (d .registers) (fitDecoder d) (setting .numerators) (setting .denominators) side zeros) (side .pitch)
+      shownBy (judged (d .registers .marks) (fitDecoder d) (setting .numerators) (setting .denominators) side zeros) (side .pitch)
       (reply d (frame (given side)) .settled)
 
   abbrev pub calledRow : Decoder → Content → Row

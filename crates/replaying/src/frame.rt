@@ -1,24 +1,23 @@
 // A frame and a loss mark, as far as their row goes.
 use crate::rounding::Rounding;
 use crate::rounding::rounding_for;
-use coefficients::Taps;
 use control::fitness::fit_config;
-use control::judge::Plan;
-use control::judge::SideInfo;
-use control::judge::Verdict;
-use control::judge::judge_side;
+use control::marks::Marks;
 use control::next::advance;
 use control::next::unsettle;
-use control::registers::Registers;
 use entries::line::Content;
 use filter::transition::Transition;
+use judging::plan::Plan;
+use judging::plan::SideInfo;
+use judging::plan::Verdict;
+use judging::plan::judge_side;
 use lag::gain::Gain;
 use lag::pitch::PitchRecord;
 use lag::rescale::Lag;
 use rates::answer::Answer;
 use rates::config::Configured;
 ghost use mathlib.Core.Path.{_≡_};
-ghost use Rattle.replaying.specs.Frames.{dashedRow, bareTaps, columnsOf, judgedBare, playedBy, lostBare, replayedContent};
+ghost use Rattle.replaying.specs.Frames.{dashedRow, columnsOf, judgedMarks, playedBy, lostMarks, replayedContent};
 
 // What the row of an accepted frame shows.
 pub struct Columns {
@@ -40,9 +39,9 @@ pub struct Row {
     pub shown: Shown,
 }
 
-// The registers after a line's content, and the line's row.
+// The marks after a line's content, and the line's row.
 pub struct Played {
-    pub registers: Registers,
+    pub marks: Marks,
     pub row: Row,
 }
 
@@ -53,21 +52,6 @@ pub(crate) fn dashed_row(answer: Answer) -> Row
     Row {
         answer,
         shown: Shown::Dashes,
-    }
-}
-
-// The filter of a frame without its coefficients, which decide nothing but samples.
-fn bare_filter(plan: Plan) -> Taps
-    ensures { λ r. ⌜ r ≡ bareTaps plan ⌝ }
-{
-    let config = plan.config;
-    let fs = config.fs;
-    let lag = plan.lag;
-    Taps {
-        l_den: fs.l_den,
-        c_num: [0.0; 11],
-        c_den: [0.0; 13],
-        lag,
     }
 }
 
@@ -91,28 +75,31 @@ fn columns_of(plan: Plan, pitch: PitchRecord, settled: bool) -> Columns
 }
 
 // The verdict of the decoder on a frame whose set and samples are good.
-fn judge_bare(registers: Registers, side: SideInfo) -> Verdict
-    ensures { λ r. ⌜ r ≡ judgedBare registers side ⌝ }
+fn judge_marks(marks: Marks, side: SideInfo) -> Verdict
+    ensures { λ r. ⌜ r ≡ judgedMarks marks side ⌝ }
 {
-    match fit_config(registers) {
-        Configured::Config(config) => judge_side(registers, config, side),
+    match fit_config(marks) {
+        Configured::Config(config) => judge_side(marks, config, side),
         Configured::Refused(answer) => Verdict::Refused(answer),
     }
 }
 
 // What a verdict on a frame with this pitch leads to.
-fn play(registers: Registers, pitch: PitchRecord, verdict: Verdict) -> Played
-    ensures { λ r. ⌜ r ≡ playedBy registers pitch verdict ⌝ }
+fn play(marks: Marks, pitch: PitchRecord, verdict: Verdict) -> Played
+    ensures { λ r. ⌜ r ≡ playedBy marks pitch verdict ⌝ }
 {
     match verdict {
         Verdict::Refused(answer) => Played {
-            registers,
+            marks,
             row: dashed_row(answer),
         },
         Verdict::Accepted(plan) => {
-            let next = advance(registers, plan, bare_filter(plan));
+            let config = plan.config;
+            let n_ms = config.n_ms;
+            let lag = plan.lag;
+            let next = advance(marks, n_ms, plan.active, lag);
             Played {
-                registers: next,
+                marks: next,
                 row: Row {
                     answer: Answer::Done,
                     shown: Shown::Columns(columns_of(plan, pitch, next.settled)),
@@ -123,33 +110,33 @@ fn play(registers: Registers, pitch: PitchRecord, verdict: Verdict) -> Played
 }
 
 // A loss mark.
-fn lose(registers: Registers) -> Played
-    ensures { λ r. ⌜ r ≡ lostBare registers ⌝ }
+fn lose(marks: Marks) -> Played
+    ensures { λ r. ⌜ r ≡ lostMarks marks ⌝ }
 {
-    match fit_config(registers) {
+    match fit_config(marks) {
         Configured::Config(_) => {
-            let lost = unsettle(registers);
+            let lost = unsettle(marks);
             Played {
-                registers: lost,
+                marks: lost,
                 row: dashed_row(Answer::Done),
             }
         }
         Configured::Refused(answer) => Played {
-            registers,
+            marks,
             row: dashed_row(answer),
         },
     }
 }
 
 // What came of a frame, as the decoder takes it.
-pub fn replay_content(registers: Registers, content: Content) -> Played
-    ensures { λ r. ⌜ r ≡ replayedContent registers content ⌝ }
+pub fn replay_content(marks: Marks, content: Content) -> Played
+    ensures { λ r. ⌜ r ≡ replayedContent marks content ⌝ }
 {
     match content {
-        Content::Lost => lose(registers),
+        Content::Lost => lose(marks),
         Content::Frame(side) => {
             let pitch = side.pitch;
-            play(registers, pitch, judge_bare(registers, side))
+            play(marks, pitch, judge_marks(marks, side))
         }
     }
 }

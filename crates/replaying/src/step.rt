@@ -2,7 +2,7 @@
 use crate::frame::Row;
 use crate::frame::dashed_row;
 use crate::frame::replay_content;
-use control::registers::Registers;
+use control::marks::Marks;
 use entries::line::Entry;
 use entries::line::Line;
 use entries::line::read_line;
@@ -19,7 +19,7 @@ pub enum Last {
 // What is known after a line, and the line's row.
 pub struct Stepped {
     pub last: Last,
-    pub registers: Registers,
+    pub marks: Marks,
     pub row: Row,
 }
 
@@ -34,40 +34,40 @@ fn follows(last: Last, frame: u32) -> bool
 }
 
 // A line that does not count.
-fn skip(last: Last, registers: Registers, answer: Answer) -> Stepped
-    ensures { λ r. ⌜ r ≡ skipped last registers answer ⌝ }
+fn skip(last: Last, marks: Marks, answer: Answer) -> Stepped
+    ensures { λ r. ⌜ r ≡ skipped last marks answer ⌝ }
 {
     Stepped {
         last,
-        registers,
+        marks,
         row: dashed_row(answer),
     }
 }
 
 // A line that is well formed counts if its number follows.
-fn step_entry(last: Last, registers: Registers, entry: Entry) -> Stepped
-    ensures { λ r. ⌜ r ≡ steppedEntry last registers entry ⌝ }
+fn step_entry(last: Last, marks: Marks, entry: Entry) -> Stepped
+    ensures { λ r. ⌜ r ≡ steppedEntry last marks entry ⌝ }
 {
     let content = entry.content;
     if !follows(last, entry.frame) {
-        return skip(last, registers, Answer::WrongFrameNumber);
+        return skip(last, marks, Answer::WrongFrameNumber);
     }
-    let played = replay_content(registers, content);
-    let next = played.registers;
+    let played = replay_content(marks, content);
+    let next = played.marks;
     let row = played.row;
     Stepped {
         last: Last::Frame(entry.frame),
-        registers: next,
+        marks: next,
         row,
     }
 }
 
 // A line, given without its newline.
-pub fn step(last: Last, registers: Registers, line: &[u8]) -> Stepped
-    ensures { λ r. ⌜ r ≡ stepped last registers (now (line .entry)) ⌝ }
+pub fn step(last: Last, marks: Marks, line: &[u8]) -> Stepped
+    ensures { λ r. ⌜ r ≡ stepped last marks (now (line .entry)) ⌝ }
 {
     match read_line(line) {
-        Line::Malformed => skip(last, registers, Answer::MalformedLine),
-        Line::Entry(entry) => step_entry(last, registers, entry),
+        Line::Malformed => skip(last, marks, Answer::MalformedLine),
+        Line::Entry(entry) => step_entry(last, marks, entry),
     }
 }

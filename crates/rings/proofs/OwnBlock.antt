@@ -7,11 +7,11 @@ use lib.ListN.{length, take, drop, length-append, length-drop, take-append-drop}
 use lib.Seq.{take-add, drop-at, length-take-le}
 use lib.Ieee.{Float}
 use Rattle.rates.specs.declared.config.Lc3Config.{Lc3Config}
-use Rattle.coefficients.specs.declared.Taps.{Taps}
+use Rattle.coefficients.specs.Coefficients.{Filter}
 use Rattle.slices.specs.Slices.{stored}
 use Rattle.slices.proofs.Stored.{take-stored, length-stored, drop-take}
 use Rattle.filter.specs.declared.transition.Transition.{Transition}
-use Rattle.filter.proofs.Late.{outputs-inputs}
+use Rattle.filter.proofs.Padded.{outputs-inputs}
 use Rattle.rings.specs.Ring.{straight}
 use Rattle.rings.specs.Samples.{filtered, blockAt}
 use Rattle.rings.specs.Required.{Filterable}
@@ -34,7 +34,7 @@ own-place c start ring h =
     rw (long, ← take-add start (c .nf) ring) (take-append-drop (start + c .nf) ring)
 
 -- the outputs of a frame are the same, whether it is stored among the inputs before or after
-pub stored-before : {t : Transition} {old new : Taps} {c : Lc3Config} {start : ℕ} {xs ys : List Float} → Filterable t old new c start xs ys →
+pub stored-before : {t : Transition} {old new : Filter} {c : Lc3Config} {start : ℕ} {xs ys : List Float} → Filterable t old new c start xs ys →
     (frame : List Float) → length frame ≡ c .nf →
     filtered t old new c start (stored xs start frame) ys frame ≡ filtered t old new c start xs ys frame
 unfolding filtered

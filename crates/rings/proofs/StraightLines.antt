@@ -11,21 +11,21 @@ use Rattle.slices.specs.Slices.{stored, placed}
 use Rattle.slices.proofs.Stored.{placed-stored}
 use Rattle.rings.specs.Ring.{straight}
 use Rattle.filter.specs.Transition.{outputs}
-use Rattle.filter.specs.Blocks.{late}
+use Rattle.filter.specs.Blocks.{padded}
 use Rattle.filter.specs.Required.{Lines}
 use Rattle.rings.specs.Required.{Filterable}
-use Rattle.rings.specs.Samples.{filtered, blockAt}
-use Rattle.coefficients.specs.declared.Taps.{Taps}
+use Rattle.rings.specs.Samples.{filtered, blockAt, filteredBlock}
+use Rattle.coefficients.specs.Coefficients.{Filter}
 use Rattle.filter.specs.declared.transition.Transition.{Transition}
 use Rattle.filter.specs.declared.transition.Transition.the-variants.{Inactive}
 use Rattle.filter.proofs.OutputsLong.{outputs-long}
-use Rattle.filter.proofs.Late.{late-alike, outputs-inputs}
+use Rattle.filter.proofs.Padded.{padded-alike, outputs-inputs}
 
 pub length-straight : (ring : List Float) (history start : ℕ) → start ≤ history → history ≤ length ring → length (straight ring history start) ≡ history
 unfolding straight
 length-straight ring history start s h = simp (length-append, length-take, length-drop) (omega arith)
 
-module _ {t : Transition} {old new : Taps} {c : Lc3Config} {start : ℕ} {xs ys : List Float} (f : Filterable t old new c start xs ys) where
+module _ {t : Transition} {old new : Filter} {c : Lc3Config} {start : ℕ} {xs ys : List Float} (f : Filterable t old new c start xs ys) where
   pub frame-long : length (blockAt c start xs) ≡ c .nf
   frame-long = length-take-le (c .nf) (drop start xs) (simp length-drop (omega arith))
 
@@ -62,7 +62,7 @@ module _ {t : Transition} {old new : Taps} {c : Lc3Config} {start : ℕ} {xs ys 
 
   -- the outputs of the frame are what lies after the past
   pub frame-outputs : (out : List Float) →
-      out ≡ outputs t old new (c .fs .fade) (late (c .history - 16) (drop (c .history - 16) (straight xs (c .history) start ++ blockAt c start xs)))
+      out ≡ outputs t old new (c .fs .fade) (padded (c .history - 16) (drop (c .history - 16) (straight xs (c .history) start ++ blockAt c start xs)))
       (take (c .history) (straight ys (c .history) start ++ blockAt c start xs)) →
       drop (c .history) out ≡ filtered t old new c start xs ys (blockAt c start xs)
   unfolding filtered
@@ -71,27 +71,37 @@ module _ {t : Transition} {old new : Taps} {c : Lc3Config} {start : ℕ} {xs ys 
       rw (
         e,
         take-at (straight ys (c .history) start) (blockAt c start xs) (c .history) past-y,
-        outputs-inputs (c .history - 16) (c .fs .fade) (c .history) (late (c .history - 16) (drop (c .history - 16) x)) x (straight ys (c .history) start)
-            (omega (arith, past-y)) (late-alike (c .history - 16) x (omega (arith, line-x))) t old new (f .readable),
+        outputs-inputs (c .history - 16) (c .fs .fade) (c .history) (padded (c .history - 16) (drop (c .history - 16) x)) x (straight ys (c .history) start)
+            (omega (arith, past-y)) (padded-alike (c .history - 16) x (omega (arith, line-x))) t old new (f .readable),
       )
 
 -- a frame has as many outputs as inputs
-pub filtered-long : {t : Transition} {old new : Taps} {c : Lc3Config} {start : ℕ} {xs ys : List Float} → Filterable t old new c start xs ys →
+pub filtered-long : {t : Transition} {old new : Filter} {c : Lc3Config} {start : ℕ} {xs ys : List Float} → Filterable t old new c start xs ys →
     (frame : List Float) → length frame ≡ c .nf → length (filtered t old new c start xs ys frame) ≡ c .nf
 unfolding filtered
 filtered-long {t = t} {old = old} {new = new} {c = c} {start = start} {xs = xs} {ys = ys} f frame e =
     let all : length (straight xs (c .history) start ++ frame) ≡ c .history + c .nf = length-append (straight xs (c .history) start) frame ∙ rw (past-x f, e) in
     simp length-drop (rw (outputs-long t old new (c .fs .fade) (straight xs (c .history) start ++ frame) (straight ys (c .history) start) (omega (arith, past-y f, f .rest)), all) (omega arith))
 
+module _ (old new : Filter) (c : Lc3Config) (start : ℕ) (xs ys : List Float) (s : start ≤ c .history) (hx : c .history ≤ length xs) (hy : c .history ≤ length ys) where
+  copied : (frame : List Float) → frame ≡ filtered Inactive old new c start xs ys frame
+  unfolding filtered outputs
+  copied frame =
+      let x = straight xs (c .history) start in
+      let y = straight ys (c .history) start in
+      let px : length x ≡ c .history = length-straight xs (c .history) start s hx in
+      let py : length y ≡ c .history = length-straight ys (c .history) start s hy in
+      rw (py, drop-at x frame (c .history) px, drop-at y frame (c .history) py)
+
+  -- in the first case the block of outputs is the block of inputs
+  pub inactive-block : filteredBlock Inactive old new c start xs ys ≡ stored ys start (blockAt c start xs)
+  inactive-block = rw (← copied (blockAt c start xs))
+
 -- the first case leaves the frame as it is
-pub untouched : {old new : Taps} {c : Lc3Config} {start : ℕ} {xs ys : List Float} → Filterable Inactive old new c start xs ys → (frame : List Float) →
+pub untouched : {old new : Filter} {c : Lc3Config} {start : ℕ} {xs ys : List Float} → Filterable Inactive old new c start xs ys → (frame : List Float) →
     frame ≡ filtered Inactive old new c start xs ys frame
-unfolding filtered outputs
-untouched {c = c} {start = start} {xs = xs} {ys = ys} f frame =
-    let x = straight xs (c .history) start in
-    let y = straight ys (c .history) start in
-    let py : length y ≡ c .history = past-y f in
-    rw (py, drop-at x frame (c .history) (past-x f), drop-at y frame (c .history) py)
+untouched {old = old} {new = new} {c = c} {start = start} {xs = xs} {ys = ys} f frame =
+    copied old new c start xs ys (omega arith) (omega arith) (omega arith) frame
 
 -- the part of a line after its past, stored as a frame
 pub stored-back : (ring out : List Float) (history start nf : ℕ) → length out ≡ history + nf → start + nf ≤ length ring →

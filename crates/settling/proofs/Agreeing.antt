@@ -11,17 +11,18 @@ use lib.Seq.{drop-drop}
 use Rattle.rates.specs.declared.config.Lc3Config.{Lc3Config}
 use Rattle.lag.specs.declared.gain.Gain.{Gain}
 use Rattle.lag.specs.declared.rescale.Lag.{Lag}
-use Rattle.coefficients.specs.Coefficients.{tapsOf, newTaps}
+use Rattle.coefficients.specs.Coefficients.{filterOf, newFilter}
 use Rattle.filter.specs.Required.{Inside}
 use Rattle.filter.proofs.Alike.{Alike, alike-later, append-alike, outputs-alike}
 use Rattle.control.specs.State.{lagFits}
-use Rattle.control.specs.Next.{keptTaps, nextRegisters}
+use Rattle.judging.specs.Filters.{keptFilter, filterFor}
+use Rattle.control.specs.Next.{nextMarks}
 use Rattle.control.proofs.Sizes.{FromTable}
-use Rattle.control.proofs.Fit.{readable}
-use Rattle.control.proofs.Judging.{declined, passed}
-use Rattle.control.proofs.Reaching.{reach, inside-reach, reach-within}
+use Rattle.judging.proofs.Readable.{readable, inside-reach}
+use Rattle.judging.proofs.Judging.{declined, passed}
+use Rattle.control.proofs.Reaching.{reach, reach-within}
 use Rattle.rings.specs.Samples.{filtered}
-use Rattle.decoder.specs.Frame.{tapsFor, accepted}
+use Rattle.decoder.specs.Frame.{accepted}
 use Rattle.decoder.specs.declared.state.Decoder.{Decoder}
 use Rattle.settling.specs.Calls.{Given, frame, after, afterAll, replyOf, reply, replies, FitState}
 use Rattle.settling.proofs.Held.{held, past-x, past-y}
@@ -44,20 +45,19 @@ oldest c = c .history - reach (c .fs)
 pub record Agree (c : Lc3Config) (a b : Decoder) : Type 0 where
   pub left : FitState c a
   pub right : FitState c b
-  pub previous : a .registers .«ltpf_active_prev» ≡ b .registers .«ltpf_active_prev»
-  pub num : a .registers .«c_num» ≡ b .registers .«c_num»
-  pub den : a .registers .«c_den» ≡ b .registers .«c_den»
-  pub lag : a .registers .lag ≡ b .registers .lag
-  pub run : a .registers .run ≡ b .registers .run
-  pub settled : a .registers .settled ≡ b .registers .settled
+  pub previous : a .registers .marks .«ltpf_active_prev» ≡ b .registers .marks .«ltpf_active_prev»
+  pub kept : a .kept ≡ b .kept
+  pub lag : a .registers .marks .lag ≡ b .registers .marks .lag
+  pub run : a .registers .marks .run ≡ b .registers .marks .run
+  pub settled : a .registers .marks .settled ≡ b .registers .marks .settled
   pub inputs : Alike (oldest c) (past-x c a) (past-x c b)
   pub outputs : Alike (oldest c) (past-y c a) (past-y c b)
 
 -- an active frame's filter reads no further than its reach
 new-inside : (c : Lc3Config) → FromTable c → (active : Bool) (gain : Gain) (lag : Lag) (nums dens : List Float) → lagFits (c .fs) active lag ≡ true →
-    active ≡ true → Inside (newTaps (c .fs) active gain lag nums dens) (reach (c .fs))
-unfolding newTaps tapsOf
-new-inside c k true gain lag nums dens l e = inside-reach c k _ refl l
+    active ≡ true → Inside (newFilter (c .fs .«l_den») active gain lag nums dens) (reach (c .fs))
+unfolding newFilter filterOf
+new-inside c k true gain lag nums dens l e = inside-reach c k _ refl lag refl l
 new-inside c k false gain lag nums dens l e = absurd (true≢false (sym e))
 
 module _ {c : Lc3Config} {a b : Decoder} (g : Agree c a b) (f : Admitted c) where
@@ -68,32 +68,31 @@ module _ {c : Lc3Config} {a b : Decoder} (g : Agree c a b) (f : Admitted c) wher
       let lb = held c b (g .right) in
       let k = lb .from in
       let w = reach-within c k in
-      let old = keptTaps (c .fs) (b .registers) in
-      let new = tapsFor (planFor b f) (f .numerators) (f .denominators) in
-      let inside-old : b .registers .«ltpf_active_prev» ≡ true → Inside old (reach (c .fs)) =
-      λ p. inside-reach c k old refl (rw p at (lb .fitting .lag)) in
+      let old = keptFilter (c .fs) (b .registers .marks) (b .kept) in
+      let new = filterFor (planFor b f) (f .numerators) (f .denominators) in
+      let inside-old : b .registers .marks .«ltpf_active_prev» ≡ true → Inside old (reach (c .fs)) =
+      λ p. inside-reach c k old refl (b .registers .marks .lag) refl (rw p at (lb .fitting .lag)) in
       let x : Alike (oldest c) (past-x c a ++ f .samples) (past-x c b ++ f .samples) =
       append-alike (oldest c) (past-x c a) (past-x c b) (f .samples) (f .samples) (omega (arith, la .long-x)) (g .inputs) refl in
-      rw (g .previous, g .lag, g .num, g .den)
+      rw (g .previous, g .lag, g .kept)
       (alike-later (oldest c) (c .history) _ _ (omega arith)
       (outputs-alike (oldest c) (reach (c .fs)) (c .fs .fade) _ _ _ _ (omega (arith, la .long-y)) x (g .outputs) _ _ new
-      (readable (b .registers .«ltpf_active_prev») (f .active) (b .registers .lag) (f .lag) old new (reach (c .fs)) inside-old
+      (readable (b .registers .marks .«ltpf_active_prev») (f .active) (b .registers .marks .lag) (f .lag) old new (reach (c .fs)) inside-old
       (new-inside c k (f .active) (f .gain) (f .lag) (f .numerators) (f .denominators) (f .lag-fits)))) .rest)
 
-  same-mark : admit a f .0 .registers .settled ≡ admit b f .0 .registers .settled
-  unfolding accepted nextRegisters
+  same-mark : admit a f .0 .registers .marks .settled ≡ admit b f .0 .registers .marks .settled
+  unfolding accepted nextMarks
   same-mark = cc
 
   agree-admitted : Agree c (admit a f .0) (admit b f .0)
-  unfolding accepted nextRegisters
+  unfolding accepted nextMarks
   agree-admitted =
       let la = held c a (g .left) in
       record {
         left = admit-fit (g .left) f;
         right = admit-fit (g .right) f;
         previous = refl;
-        num = refl;
-        den = refl;
+        kept = refl;
         lag = refl;
         run = cc;
         settled = same-mark;

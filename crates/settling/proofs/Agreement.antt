@@ -15,7 +15,7 @@ use Rattle.settling.proofs.Hearing.{heard-calls}
 use Rattle.settling.proofs.Quieting.{agree-quiet}
 
 -- two fit states of the same rate and duration have the same configuration
-pub same-config : (a b : Decoder) (fa : Fit a) (fb : Fit b) → a .registers .rate ≡ b .registers .rate → a .registers .duration ≡ b .registers .duration → FitState (fa .0) b
+pub same-config : (a b : Decoder) (fa : Fit a) (fb : Fit b) → a .registers .marks .rate ≡ b .registers .marks .rate → a .registers .marks .duration ≡ b .registers .marks .duration → FitState (fa .0) b
 same-config a b fa fb r t =
     let p = held (fa .0) a (fa .1) .fitting .config in
     let q = held (fb .0) b (fb .1) .fitting .config in
@@ -31,7 +31,7 @@ settled-alike c a b sa sb calls-a calls-b q =
     let hb = heard-calls c b sb calls-b (q .right) in
     rw (ha .state, hb .state, ← q .same) (agree-quiet c a b sa sb (heard (events a calls-a)) (ha .long) (q .many ∙ limit-found c a sa))
 
-pub agreement : (a b : Decoder) → Fit a → Fit b → a .registers .rate ≡ b .registers .rate → a .registers .duration ≡ b .registers .duration →
+pub agreement : (a b : Decoder) → Fit a → Fit b → a .registers .marks .rate ≡ b .registers .marks .rate → a .registers .marks .duration ≡ b .registers .marks .duration →
     (calls-a calls-b : List Call) → SettleAlike a b calls-a calls-b →
     (later : List Given) → replies (afterAll a calls-a) (map frame later) ≡ replies (afterAll b calls-b) (map frame later)
 agreement a b fa fb r t calls-a calls-b q later =

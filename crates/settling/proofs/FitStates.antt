@@ -11,17 +11,17 @@ use Rattle.rates.specs.declared.config.Lc3Config.{Lc3Config}
 use Rattle.rates.specs.declared.config.Configured.{Configured}
 use Rattle.rates.specs.declared.config.Configured.the-variants.{Config, Refused}
 use Rattle.rates.specs.declared.answer.Answer.the-variants.{Done}
-use Rattle.control.specs.State.{clearedRegisters}
+use Rattle.control.specs.State.{clearedMarks}
 use Rattle.control.specs.Next.{unsettled}
 use Rattle.control.proofs.Sizes.{from-table, sized}
 use Rattle.control.proofs.StaysFit.{start-fits, lost-fits}
-use Rattle.control.proofs.Judging.{declined, passed}
+use Rattle.judging.proofs.Judging.{declined, passed}
 use Rattle.decoder.specs.State.{cleared, startedWith, started}
 use Rattle.decoder.specs.Frame.{lostFrom, framedAs}
 use Rattle.decoder.specs.InPlace.{joined}
 use Rattle.decoder.specs.declared.state.Decoder.{Decoder}
 use Rattle.decoder.specs.declared.frame.Framed.{Framed}
-use Rattle.decoder.proofs.RingFits.{first-block}
+use Rattle.on_ring.proofs.RingFits.{first-block}
 use Rattle.settling.specs.Calls.{Given, frame, loss, framedBy, after, afterAll, FitState, Fit}
 use Rattle.settling.proofs.Held.{held}
 use Rattle.settling.proofs.Admitted.{admit-fit}
@@ -29,7 +29,7 @@ use Rattle.settling.proofs.Judging.{OutcomeOf, outcomeOf, framedOn, fra
 
 -- a cleared state of a known rate and duration
 pub cleared-fit : (rate duration : ℕ) (c : Lc3Config) → configOf rate duration ≡ Config c → FitState c (cleared rate duration)
-unfolding cleared clearedRegisters
+unfolding cleared clearedMarks
 cleared-fit rate duration c e =
     let z = sized c (from-table rate duration c e) in
     record {
@@ -47,9 +47,10 @@ started-fit rate duration = go (configOf rate duration) refl
     go (Config c) e = (c, cleared-fit rate duration c e)
     go (Refused a) e = (_, cleared-fit 48000 10000 _ refl)
 
--- a loss mark changes the registers
+-- a loss mark changes the marks
 abbrev pub unsettledDecoder : Decoder → Decoder
-unsettledDecoder d = joined (unsettled (d .registers)) (d .«block_start_index») (d .«x_hat_mem») (d .«x_hat_ltpf_mem»)
+unsettledDecoder d = joined (record { marks = unsettled (d .registers .marks); «block_start_index» = d .registers .«block_start_index» }) (d .kept)
+    (d .«x_hat_mem») (d .«x_hat_ltpf_mem»)
 
 -- and is accepted
 pub lost-done : (c : Lc3Config) (d : Decoder) → FitState c d → lostFrom d ≡ framedAs Done (unsettledDecoder d)
@@ -62,7 +63,7 @@ after-lost c d s = ap (λ (r : Framed). r .decoder) (lost-done c d s)
 pub unsettled-fit : (c : Lc3Config) (d : Decoder) → FitState c d → FitState c (unsettledDecoder d)
 unsettled-fit c d s =
     let k = held c d s in
-    record { found = rw (k .fitting .config, lost-fits (d .registers) c (k .fitting), k .block); inputs = s .inputs; outputs = s .outputs }
+    record { found = rw (k .fitting .config, lost-fits (d .registers .marks) c (k .fitting), k .block); inputs = s .inputs; outputs = s .outputs }
 
 -- a frame, whatever its outcome
 pub judged-fit : (c : Lc3Config) (f : Given) (d : Decoder) → FitState c d → (o : OutcomeOf c f) → FitState c (framedOn c f d o .0 .decoder)

@@ -13,8 +13,8 @@ use Rattle.rates.specs.declared.duration.FoundDuration.{FoundDuration}
 use Rattle.rates.specs.declared.config.Lc3Config.{Lc3Config}
 use Rattle.rates.specs.declared.config.Configured.{Configured}
 use Rattle.rates.specs.declared.config.Configured.the-variants.{Config, Refused}
-use Rattle.control.specs.State.{clearedRegisters}
-use Rattle.control.proofs.Judging.{declined, passed}
+use Rattle.control.specs.State.{clearedMarks}
+use Rattle.judging.proofs.Judging.{declined, passed}
 use Rattle.decoder.specs.State.{cleared, startedWith, started}
 use Rattle.decoder.specs.declared.state.Decoder.{Decoder}
 use Rattle.decoder.specs.declared.frame.Framed.{Framed}
@@ -30,13 +30,13 @@ pub record Followed (d : Decoder) (es : List Event) : Type 0 where
   pub counted : Counted config d es
 
 followed-start : (rate duration : ℕ) (es : List Event) → since es ≡ [] → Followed (started rate duration .decoder) es
-unfolding cleared clearedRegisters
+unfolding cleared clearedMarks
 followed-start rate duration es e =
     let f = started-fit rate duration in
     let k = clear (configOf rate duration) in
     record { config = f .0; fit = f .1; counted = counted-anew (f .0) (started rate duration .decoder) es (k .0) (k .1) e }
   where
-    clear : (k : Configured) → (startedWith rate duration k .decoder .registers .run ≡ 0) × (startedWith rate duration k .decoder .registers .settled ≡ false)
+    clear : (k : Configured) → (startedWith rate duration k .decoder .registers .marks .run ≡ 0) × (startedWith rate duration k .decoder .registers .marks .settled ≡ false)
     clear (Config c) = (refl, refl)
     clear (Refused a) = (refl, refl)
 
@@ -52,14 +52,14 @@ followed-after d es loss k =
     (record { config = c; fit = unsettled-fit c d (k .fit); counted = counted-anew c (unsettledDecoder d) (restart ∷ es) refl refl refl })
 
 -- a call reports the mark of the state that it leaves
-pub reports-mark : (k : Lc3Config) (d : Decoder) → FitState k d → (c : Call) → reply d c .settled ≡ after d c .registers .settled
+pub reports-mark : (k : Lc3Config) (d : Decoder) → FitState k d → (c : Call) → reply d c .settled ≡ after d c .registers .marks .settled
 reports-mark k d s (start rate duration) = refl
 reports-mark k d s (frame f) = rw (reply-judged k f d s, after-judged k f d s) (go (outcomeOf k f))
   where
-    go : (o : OutcomeOf k f) → framedOn k f d o .0 .settled ≡ framedOn k f d o .0 .decoder .registers .settled
+    go : (o : OutcomeOf k f) → framedOn k f d o .0 .settled ≡ framedOn k f d o .0 .decoder .registers .marks .settled
     go (declined answer l h) = refl
     go (passed lag p) = refl
-reports-mark k d s loss = ap (λ (r : Framed). r .settled) (lost-done k d s) ∙ sym (ap (λ (e : Decoder). e .registers .settled) (after-lost k d s))
+reports-mark k d s loss = ap (λ (r : Framed). r .settled) (lost-done k d s) ∙ sym (ap (λ (e : Decoder). e .registers .marks .settled) (after-lost k d s))
 
 -- no answer of a fit state is above 8
 pub answer-small : (k : Lc3Config) (d : Decoder) → FitState k d → (c : Call) → numberOf (reply d c .answer) ≤ 8

@@ -8,13 +8,11 @@ use lib.ListN.{length}
 use Rattle.rates.specs.declared.table.Rate.{Rate}
 use Rattle.rates.specs.declared.config.Lc3Config.{Lc3Config}
 use Rattle.lag.specs.declared.gain.Gain.the-variants.{Off}
-use Rattle.lag.specs.declared.rescale.Lag.{Lag}
-use Rattle.coefficients.specs.Coefficients.{newTaps}
-use Rattle.filter.specs.Transition.{transitionOf}
-use Rattle.control.specs.Pitch.{isActive, noLag}
-use Rattle.control.specs.State.{lagFits}
-use Rattle.control.specs.Next.{nextRegisters}
-use Rattle.control.proofs.Judging.{declined, passed}
+use Rattle.coefficients.specs.Coefficients.{newFilter}
+use Rattle.judging.specs.Pitch.{isActive}
+use Rattle.control.specs.State.{noLag, lagFits}
+use Rattle.control.specs.Next.{nextMarks}
+use Rattle.judging.proofs.Judging.{declined, passed}
 use Rattle.decoder.specs.Frame.{accepted}
 use Rattle.decoder.specs.declared.state.Decoder.{Decoder}
 use Rattle.settling.specs.Calls.{Given, Call, start, frame, loss, afterAll, Event, restart, quiet, active, refusal, event, events, still, heard, FitState}
@@ -23,7 +21,7 @@ use Rattle.settling.proofs.Judging.{OutcomeOf, outcomeOf, framedOn, adm
 
 -- an accepted inactive frame: neither its lent set nor its gain nor its lag matters, so none stand here
 abbrev pub quieted : Lc3Config → Decoder → List Float → Decoder × List Float
-quieted c d samples = accepted d (planWith (d .registers) c false Off noLag) [] [] samples
+quieted c d samples = accepted d (planWith (d .registers .marks) c false Off noLag) [] [] samples
 
 pub no-lag-fits : (fs : Rate) → lagFits fs false noLag ≡ true
 unfolding lagFits
@@ -31,17 +29,11 @@ no-lag-fits fs = refl
 
 abbrev pub quiet-frame : (c : Lc3Config) (samples : List Float) → length samples ≡ c .nf → Admitted c
 quiet-frame c samples count =
-    record { active = false; gain = Off; lag = noLag; numerators = []; denominators = []; samples = samples; lag-fits = no-lag-fits (c .fs); count = count }
-
--- the case of an inactive frame does not look at lags
-any-lag : (p : Bool) (old a b : Lag) → transitionOf p false old a ≡ transitionOf p false old b
-unfolding transitionOf
-any-lag true old a b = refl
-any-lag false old a b = refl
+    record { active = false; gain = Off; lag = noLag; numerators = []; denominators = []; samples = samples; lag-fits = no-lag-fits (c .fs); lagless = λ e. refl; count = count }
 
 pub same-quieted : (c : Lc3Config) (d : Decoder) (f : Admitted c) → f .active ≡ false → admit d f ≡ quieted c d (f .samples)
-unfolding accepted nextRegisters newTaps
-same-quieted c d f p = rw (p, any-lag (d .registers .«ltpf_active_prev») (d .registers .lag) (f .lag) noLag)
+unfolding accepted nextMarks newFilter
+same-quieted c d f p = rw (p, f .lagless p)
 
 -- the state after inactive frames with these samples, the latest first
 abbrev pub quietAll : Lc3Config → Decoder → List (List Float) → Decoder

@@ -15,12 +15,12 @@ use Rattle.rates.specs.declared.config.Lc3Config.{Lc3Config}
 use Rattle.rates.specs.declared.config.Configured.the-variants.{Config}
 use Rattle.control.specs.State.{settledLimit}
 use Rattle.control.proofs.Sizes.{FromTable, from-table, Sized, sized}
-use Rattle.control.proofs.Fit.{Fits, fits}
+use Rattle.control.proofs.Fit.{Fits}
 use Rattle.rings.specs.Ring.{straight}
-use Rattle.decoder.specs.State.{blockFits}
+use Rattle.on_ring.specs.Registers.{blockFits}
 use Rattle.decoder.specs.declared.state.Decoder.{Decoder}
 use Rattle.rings.proofs.StraightLines.{length-straight}
-use Rattle.decoder.proofs.RingFits.{ring-fits, block-inside}
+use Rattle.on_ring.proofs.RingFits.{ring-fits, block-inside}
 use Rattle.settling.specs.Calls.{limitOf, FitState}
 
 -- the duration of a configuration
@@ -37,38 +37,38 @@ duration-found hz us c e = go (rowOf hz) (durationOf us) refl e
 
 -- the straight pasts of a state
 abbrev pub past-x : Lc3Config → Decoder → List Float
-past-x c d = straight (d .«x_hat_mem») (c .history) (d .«block_start_index»)
+past-x c d = straight (d .«x_hat_mem») (c .history) (d .registers .«block_start_index»)
 
 abbrev pub past-y : Lc3Config → Decoder → List Float
-past-y c d = straight (d .«x_hat_ltpf_mem») (c .history) (d .«block_start_index»)
+past-y c d = straight (d .«x_hat_ltpf_mem») (c .history) (d .registers .«block_start_index»)
 
 -- what is known of a fit state
 pub record Held (c : Lc3Config) (d : Decoder) : Type 0 where
   pub from : FromTable c
   pub sizes : Sized c
-  pub fitting : Fits c (d .registers)
-  pub block : blockFits c (d .«block_start_index») ≡ true
-  pub block-within : d .«block_start_index» + c .nf ≤ c .history
+  pub fitting : Fits c (d .registers .marks)
+  pub block : blockFits c (d .registers .«block_start_index») ≡ true
+  pub block-within : d .registers .«block_start_index» + c .nf ≤ c .history
   pub long-x : length (past-x c d) ≡ c .history
   pub long-y : length (past-y c d) ≡ c .history
 
 pub held : (c : Lc3Config) (d : Decoder) → FitState c d → Held c d
 held c d s =
-    let f = ring-fits (d .registers) (d .«block_start_index») c (s .found) in
-    let r = fits (d .registers) c (f .0) in
-    let k = from-table (d .registers .rate) (d .registers .duration) c (r .config) in
+    let f = ring-fits (d .registers) c (s .found) in
+    let r = f .0 in
+    let k = from-table (d .registers .marks .rate) (d .registers .marks .duration) c (r .config) in
     let z = sized c k in
-    let b = block-inside c (d .«block_start_index») k (f .1) in
+    let b = block-inside c (d .registers .«block_start_index») k (f .1) in
     record {
       from = k;
       sizes = z;
       fitting = r;
       block = f .1;
       block-within = b;
-      long-x = length-straight (d .«x_hat_mem») (c .history) (d .«block_start_index») (omega arith) (omega (arith, s .inputs));
-      long-y = length-straight (d .«x_hat_ltpf_mem») (c .history) (d .«block_start_index») (omega arith) (omega (arith, s .outputs));
+      long-x = length-straight (d .«x_hat_mem») (c .history) (d .registers .«block_start_index») (omega arith) (omega (arith, s .inputs));
+      long-y = length-straight (d .«x_hat_ltpf_mem») (c .history) (d .registers .«block_start_index») (omega arith) (omega (arith, s .outputs));
     }
 
 -- the limit of a fit state
 pub limit-found : (c : Lc3Config) (d : Decoder) → FitState c d → limitOf d ≡ settledLimit (c .«n_ms»)
-limit-found c d s = rw (duration-found (d .registers .rate) (d .registers .duration) c (held c d s .fitting .config))
+limit-found c d s = rw (duration-found (d .registers .marks .rate) (d .registers .marks .duration) c (held c d s .fitting .config))

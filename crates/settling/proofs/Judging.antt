@@ -8,11 +8,12 @@ use lib.Dec.{eqb}
 use lib.Ieee.{Float}
 use Rattle.rates.specs.Answers.{numberOf}
 use Rattle.rates.specs.declared.config.Lc3Config.{Lc3Config}
+use Rattle.lag.specs.Sent.{sentOf}
 use Rattle.lag.specs.Gain.{gainOf, bitsOf}
 use Rattle.lag.specs.declared.rescale.Lag.{Lag}
-use Rattle.control.specs.Pitch.{isActive}
-use Rattle.control.proofs.Fit.{lag-for-fits}
-use Rattle.control.proofs.Judging.{Passed, Outcome, declined, passed, verdict, outcome}
+use Rattle.judging.specs.Pitch.{isActive}
+use Rattle.judging.proofs.Lags.{lag-for-fits, lag-for-none}
+use Rattle.judging.proofs.Judging.{Passed, Outcome, declined, passed, verdict, outcome}
 use Rattle.decoder.specs.Frame.{framedWith, framed}
 use Rattle.decoder.specs.declared.state.Decoder.{Decoder}
 use Rattle.decoder.specs.declared.frame.Framed.{Framed}
@@ -29,11 +30,11 @@ outcomeOf c f = outcome c (f .numerators) (f .denominators) (f .side) (f .sample
 -- what the call gives back then
 abbrev pub framedOn : (c : Lc3Config) (f : Given) → Decoder → OutcomeOf c f → Framed × List Float
 framedOn c f d o =
-    framedWith d (f .numerators) (f .denominators) (f .samples) (verdict c (f .numerators) (f .denominators) (f .side) (f .samples) (d .registers) o)
+    framedWith d (f .numerators) (f .denominators) (f .samples) (verdict c (f .numerators) (f .denominators) (f .side) (f .samples) (d .registers .marks) o)
 
 pub framed-judged : (c : Lc3Config) (f : Given) (d : Decoder) → FitState c d → framedBy d f ≡ framedOn c f d (outcomeOf c f)
 unfolding framed outcomeOf
-framed-judged c f d s = rw (s .found, outcome c (f .numerators) (f .denominators) (f .side) (f .samples) .1 (d .registers))
+framed-judged c f d s = rw (s .found, outcome c (f .numerators) (f .denominators) (f .side) (f .samples) .1 (d .registers .marks))
 
 -- the frame that passed
 abbrev pub admitted : (c : Lc3Config) (f : Given) (lag : Lag) → Passed c (f .numerators) (f .denominators) (f .side) (f .samples) lag → Admitted c
@@ -44,7 +45,8 @@ admitted c f lag p = record {
   numerators = f .numerators;
   denominators = f .denominators;
   samples = f .samples;
-  lag-fits = lag-for-fits (c .fs) (f .side .pitch) lag (p .found);
+  lag-fits = lag-for-fits (c .fs) (sentOf (f .side .pitch)) lag (p .found);
+  lagless = lag-for-none (c .fs) (sentOf (f .side .pitch)) lag (p .found);
   count = p .count;
 }
 

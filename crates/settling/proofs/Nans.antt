@@ -12,10 +12,9 @@ use lib.ListN.{length, take, drop, replicate, length-map, length-drop, length-re
 use lib.Seq.{length-take-le, getD-append-seam, getD-append-add, getD-take, getD-drop}
 use lib.Ieee.{Float, nan, inf, fin, add, sub, mul, neg, round, sum}
 use Rattle.floats.specs.Single.{_⊕_, _⊖_, _⊗_, 0·0, at}
-use Rattle.coefficients.specs.Coefficients.{rowOfSet, scaled}
+use Rattle.coefficients.specs.Coefficients.{rowOfSet, scaled, Filter}
 use Rattle.filter.specs.Filter.{numSum, denSum, F}
 use Rattle.filter.specs.Fade.{faded, grow}
-use Rattle.coefficients.specs.declared.Taps.{Taps}
 use Rattle.filter.specs.declared.fade.Direction.{Direction}
 use Rattle.filter.proofs.Growing.{length-grow}
 
@@ -64,13 +63,13 @@ nan-one v e zero = e
 nan-one v e (suc i) = refl
 
 -- the filter gives a NaN where its last output, the oldest, is one
-pub F-nan : (t : Taps) (x y : List Float) (i : ℕ) → at y (i + t .«l_den» / 2 - t .lag .whole - t .«l_den») ≡ nan → F t x y i ≡ nan
+pub F-nan : (t : Filter) (x y : List Float) (i : ℕ) → at y (i + t .«l_den» / 2 - t .lag - t .«l_den») ≡ nan → F t x y i ≡ nan
 unfolding F denSum
 F-nan t x y i h = rw (add-one, h, times-nan) (less-nan _)
 
 -- and so does a fade
-pub faded-nan : (direction : Direction) (history fade : ℕ) (t : Taps) (x y : List Float) →
-    at y (length y + t .«l_den» / 2 - t .lag .whole - t .«l_den») ≡ nan → faded direction history fade t x y ≡ nan
+pub faded-nan : (direction : Direction) (history fade : ℕ) (t : Filter) (x y : List Float) →
+    at y (length y + t .«l_den» / 2 - t .lag - t .«l_den») ≡ nan → faded direction history fade t x y ≡ nan
 unfolding faded
 faded-nan direction history fade t x y h = rw (F-nan t x y (length y) h, nan-times) (less-nan _)
 
@@ -118,12 +117,12 @@ denSum-zero den y i (suc k) n z =
     rw (denSum-zero den y i k (λ j l. n j (omega arith)) z, n k (omega arith), z (i - k) (omega arith)) zero-taken
 
 -- the filter gives 0.0 where its coefficients and all that it reads are
-pub F-zero : (t : Taps) (x y : List Float) (i : ℕ) → t .«l_den» / 2 + 1 ≤ t .lag .whole → 0 < i →
+pub F-zero : (t : Filter) (x y : List Float) (i : ℕ) → t .«l_den» / 2 + 1 ≤ t .lag → 0 < i →
     ZeroTo (t .«l_den» - 1) (t .«c_num») → ZeroTo (t .«l_den» + 1) (t .«c_den») → ZeroTo (i + 1) x → ZeroTo i y → F t x y i ≡ 0·0
 unfolding F
 F-zero t x y i l some n d zx zy =
     rw (numSum-zero (t .«c_num») x i (t .«l_den» - 1) n zx)
-    (denSum-zero (t .«c_den») y (i + t .«l_den» / 2 - t .lag .whole) (t .«l_den» + 1) d (λ j h. zy j (omega arith)))
+    (denSum-zero (t .«c_den») y (i + t .«l_den» / 2 - t .lag) (t .«l_den» + 1) d (λ j h. zy j (omega arith)))
 
 -- 0.0 before a number of entries, and so after a list of 0.0
 pub append-zero : (p s : List Float) (h n : ℕ) → length p ≡ h → ZeroTo h p → ZeroTo n s → ZeroTo (h + n) (p ++ s)

@@ -15,16 +15,15 @@ use Rattle.rates.specs.Configs.{configOf}
 use Rattle.rates.specs.declared.config.Lc3Config.{Lc3Config}
 use Rattle.rates.specs.declared.config.Configured.the-variants.{Config}
 use Rattle.lag.specs.Lag.{rescaled}
-use Rattle.lag.specs.declared.gain.Gain.the-variants.{Off}
 use Rattle.lag.proofs.Lags.{quarters-ends}
-use Rattle.coefficients.specs.Coefficients.{tapsOf, newTaps}
+use Rattle.coefficients.specs.Coefficients.{filterOf, newFilter}
 use Rattle.filter.specs.Fade.{faded, grow}
 use Rattle.filter.specs.Transition.{transitionOf, outputs, caseDeactivated}
-use Rattle.coefficients.specs.declared.Taps.{Taps}
 use Rattle.filter.specs.declared.fade.Direction.the-variants.{In, Out}
 use Rattle.filter.proofs.Growing.{length-grow}
-use Rattle.control.specs.State.{clearedRegisters}
-use Rattle.control.specs.Next.{keptTaps, nextRegisters}
+use Rattle.control.specs.State.{clearedMarks}
+use Rattle.judging.specs.Filters.{keptFilter}
+use Rattle.control.specs.Next.{nextMarks}
 use Rattle.control.proofs.Sizes.{from-table, sized}
 use Rattle.control.proofs.StaysFit.{stays-fit}
 use Rattle.control.proofs.Reaching.{reach-within}
@@ -33,35 +32,32 @@ use Rattle.rings.specs.Ring.{straight}
 use Rattle.rings.specs.Samples.{filtered}
 use Rattle.decoder.specs.Frame.{accepted}
 use Rattle.decoder.specs.declared.state.Decoder.{Decoder}
-use Rattle.decoder.proofs.RingFits.{first-block}
+use Rattle.on_ring.proofs.RingFits.{first-block}
 use Rattle.settling.specs.Calls.{frame, FitState}
 use Rattle.settling.proofs.Held.{held, past-x, past-y}
-use Rattle.settling.proofs.Admitted.{planWith, admit, past-y-next}
+use Rattle.settling.proofs.Admitted.{admit, past-y-next}
 use Rattle.settling.proofs.Hearing.{quieted, quiet-frame}
 use Rattle.settling.proofs.Quieting.{quieted-inactive}
 use Rattle.settling.proofs.Nans.{AllNan, nan-replicate, nan-append, nan-take, nan-drop, faded-nan, grow-nan}
-use Rattle.settling.proofs.Silence.{longest, longest-fits, silent, length-silent, loud, loudTaps, silent-fit, older-output, first-sample}
+use Rattle.settling.proofs.Silence.{longest, longest-fits, silent, length-silent, loud, loudFilter, silent-fit, older-output, first-sample}
 
 -- a start's, but for its past outputs and its last frame
-abbrev pub longTaps : Lc3Config → Taps
-longTaps c = record { «l_den» = c .fs .«l_den»; «c_num» = replicate 11 0·0; «c_den» = replicate 13 0·0; lag = longest (c .fs) }
-
 abbrev pub noisy : ℕ → ℕ → Lc3Config → Decoder
 noisy rate duration c = record {
-  registers = nextRegisters (clearedRegisters rate duration) (planWith (clearedRegisters rate duration) c true Off (longest (c .fs))) (longTaps c);
-  «block_start_index» = 0;
+  registers = record { marks = nextMarks (clearedMarks rate duration) (c .«n_ms») true (longest (c .fs)); «block_start_index» = 0 };
+  kept = replicate 24 0·0;
   «x_hat_mem» = replicate 1080 0·0;
   «x_hat_ltpf_mem» = replicate 1080 nan;
 }
 
 pub noisy-fit : (rate duration : ℕ) (c : Lc3Config) → configOf rate duration ≡ Config c → FitState c (noisy rate duration c)
-unfolding nextRegisters clearedRegisters
+unfolding nextMarks clearedMarks
 noisy-fit rate duration c e =
     let z = sized c (from-table rate duration c e) in
     record {
       found = rw (
         e,
-        stays-fit (clearedRegisters rate duration) (planWith (clearedRegisters rate duration) c true Off (longest (c .fs))) (longTaps c) (longest-fits (c .fs)),
+        stays-fit (clearedMarks rate duration) c true (longest (c .fs)) (longest-fits (c .fs)),
         first-block c (omega arith),
       );
       inputs = length-replicate 1080 0·0;
@@ -75,18 +71,18 @@ noisy-past rate duration c =
     nan-append (take (c .history - 0) (drop 0 ring)) (take 0 ring)
     (nan-take (c .history - 0) (drop 0 ring) (nan-drop 0 ring (nan-replicate 1080))) (nan-take 0 ring (nan-replicate 1080))
 
-pub noisy-active : (rate duration : ℕ) (c : Lc3Config) → noisy rate duration c .registers .«ltpf_active_prev» ≡ true
-unfolding nextRegisters
+pub noisy-active : (rate duration : ℕ) (c : Lc3Config) → noisy rate duration c .registers .marks .«ltpf_active_prev» ≡ true
+unfolding nextMarks
 noisy-active rate duration c = refl
 
 -- such a state, given silence
-module _ (c : Lc3Config) (d : Decoder) (s : FitState c d) (p : d .registers .«ltpf_active_prev» ≡ true) (h : AllNan (past-y c d)) where
+module _ (c : Lc3Config) (d : Decoder) (s : FitState c d) (p : d .registers .marks .«ltpf_active_prev» ≡ true) (h : AllNan (past-y c d)) where
   -- the fade of the first inactive frame keeps the NaNs
   fade-nan : (j : ℕ) → j < c .fs .fade → at (quieted c d (silent c) .1) j ≡ nan
   unfolding accepted filtered transitionOf outputs caseDeactivated
   fade-nan j l =
       let k = held c d s in
-      let old = keptTaps (c .fs) (d .registers) in
+      let old = keptFilter (c .fs) (d .registers .marks) (d .kept) in
       let x = past-x c d ++ silent c in
       let f = faded Out (length (past-y c d)) (c .fs .fade) old x in
       rw p (getD-drop (c .history) _ j nan
@@ -110,7 +106,7 @@ module _ (c : Lc3Config) (d : Decoder) (s : FitState c d) (p : d .registers .«l
 
   -- and a filter of the longest lag still reads one of them after the second
   pub noisy-first : at (admit (quieted c (quieted c d (silent c) .0) (silent c) .0) (loud c) .1) 0 ≡ nan
-  unfolding newTaps tapsOf
+  unfolding newFilter filterOf
   noisy-first =
       let one = quieted c d (silent c) .0 in
       let s1 = silent-fit c d s in
@@ -125,5 +121,5 @@ module _ (c : Lc3Config) (d : Decoder) (s : FitState c d) (p : d .registers .«l
       let whole : longest (c .fs) .whole ≡ rescaled (c .fs .r) 912 / 4 = ap (λ (q : ℕ). rescaled (c .fs .r) q / 4) (quarters-ends .1) in
       let oldest = length (past-y c two) + c .fs .«l_den» / 2 - longest (c .fs) .whole - c .fs .«l_den» in
       first-sample c two s2 (quieted-inactive c one (silent c))
-      ∙ faded-nan In (length (past-y c two)) (c .fs .fade) (loudTaps c) (past-x c two ++ silent c) (past-y c two)
+      ∙ faded-nan In (length (past-y c two)) (c .fs .fade) (loudFilter c) (past-x c two ++ silent c) (past-y c two)
       (older-output c one s1 oldest (omega arith) ∙ past-nan (c .nf + oldest) (omega arith))

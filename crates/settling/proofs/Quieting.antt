@@ -9,16 +9,16 @@ use lib.Ieee.{Float}
 use lib.ListN.{length, drop, length-append}
 use lib.Seq.{drop-at, drop-drop}
 use Rattle.rates.specs.declared.config.Lc3Config.{Lc3Config}
-use Rattle.coefficients.specs.Coefficients.{noTaps, newTaps}
+use Rattle.coefficients.specs.Coefficients.{noFilter, newFilter, Filter}
 use Rattle.filter.specs.Fade.{grow, faded}
 use Rattle.filter.specs.Transition.{transitionOf, outputs, caseDeactivated}
-use Rattle.coefficients.specs.declared.Taps.{Taps}
 use Rattle.filter.specs.declared.fade.Direction.the-variants.{Out}
 use Rattle.filter.specs.declared.transition.Transition.the-variants.{Inactive, Deactivated}
 use Rattle.filter.proofs.Alike.{Alike, alike-later, append-alike}
 use Rattle.filter.proofs.Growing.{length-grow}
 use Rattle.control.specs.State.{settledLimit}
-use Rattle.control.specs.Next.{keptTaps, nextRegisters}
+use Rattle.judging.specs.Filters.{keptFilter}
+use Rattle.control.specs.Next.{nextMarks}
 use Rattle.control.proofs.Sizes.{sized}
 use Rattle.control.proofs.Fit.{limit-some}
 use Rattle.control.proofs.Reaching.{reach, reach-within, limit-enough}
@@ -33,7 +33,7 @@ use Rattle.settling.proofs.Counting.{at-limit}
 use Rattle.settling.proofs.Agreeing.{drop-alike, oldest, Agree}
 
 -- case 1 copies the frame, and case 3 what lies after the fade
-module _ (old new : Taps) (fade history : ℕ) (px py samples : List Float) (ex : length px ≡ history) (ey : length py ≡ history) where
+module _ (old new : Filter) (fade history : ℕ) (px py samples : List Float) (ex : length px ≡ history) (ey : length py ≡ history) where
   inactive-copies : drop history (outputs Inactive old new fade (px ++ samples) py) ≡ samples
   unfolding outputs
   inactive-copies = drop-at py _ history ey ∙ rw ey (drop-at px samples history ex)
@@ -53,22 +53,22 @@ module _ (c : Lc3Config) (d : Decoder) (s : FitState c d) (samples : List Float)
   quiet-long = admit-long s (quiet-frame c samples count)
 
   -- after an inactive frame the samples are copied
-  pub quiet-copy : d .registers .«ltpf_active_prev» ≡ false → quieted c d samples .1 ≡ samples
-  unfolding accepted filtered transitionOf newTaps
+  pub quiet-copy : d .registers .marks .«ltpf_active_prev» ≡ false → quieted c d samples .1 ≡ samples
+  unfolding accepted filtered transitionOf newFilter
   quiet-copy p =
       let h = held c d s in
-      rw p (inactive-copies (keptTaps (c .fs) (d .registers)) (noTaps (c .fs)) (c .fs .fade) (c .history) (past-x c d) (past-y c d) samples (h .long-x) (h .long-y))
+      rw p (inactive-copies (keptFilter (c .fs) (d .registers .marks) (d .kept)) (noFilter (c .fs .«l_den»)) (c .fs .fade) (c .history) (past-x c d) (past-y c d) samples (h .long-x) (h .long-y))
 
   -- after any frame those after the fade are
   quiet-tail : drop (c .fs .fade) (quieted c d samples .1) ≡ drop (c .fs .fade) samples
-  unfolding accepted filtered transitionOf newTaps
-  quiet-tail = go (d .registers .«ltpf_active_prev») refl
+  unfolding accepted filtered transitionOf newFilter
+  quiet-tail = go (d .registers .marks .«ltpf_active_prev») refl
     where
-      go : (p : Bool) → d .registers .«ltpf_active_prev» ≡ p → drop (c .fs .fade) (quieted c d samples .1) ≡ drop (c .fs .fade) samples
+      go : (p : Bool) → d .registers .marks .«ltpf_active_prev» ≡ p → drop (c .fs .fade) (quieted c d samples .1) ≡ drop (c .fs .fade) samples
       go false p = rw (quiet-copy p)
       go true p =
           let h = held c d s in
-          rw p (deactivated-copies (keptTaps (c .fs) (d .registers)) (noTaps (c .fs)) (c .fs .fade) (c .history) (past-x c d) (past-y c d) samples (h .long-x) (h .long-y))
+          rw p (deactivated-copies (keptFilter (c .fs) (d .registers .marks) (d .kept)) (noFilter (c .fs .«l_den»)) (c .fs .fade) (c .history) (past-x c d) (past-y c d) samples (h .long-x) (h .long-y))
 
 -- the last so many samples of two states are alike
 record Near (c : Lc3Config) (a b : Decoder) (last : ℕ) : Type 0 where
@@ -109,7 +109,7 @@ module _ (c : Lc3Config) (a b : Decoder) (sa : FitState c a) (sb : FitState c b)
       (quiet-long c a sa samples count ∙ sym (quiet-long c b sb samples count)) (quiet-tail c a sa samples count ∙ sym (quiet-tail c b sb samples count)))
 
   -- and each further one adds a whole frame
-  near-next : (last : ℕ) → a .registers .«ltpf_active_prev» ≡ false → b .registers .«ltpf_active_prev» ≡ false →
+  near-next : (last : ℕ) → a .registers .marks .«ltpf_active_prev» ≡ false → b .registers .marks .«ltpf_active_prev» ≡ false →
       Alike (c .history - last) (past-x c a) (past-x c b) → Alike (c .history - last) (past-y c a) (past-y c b) →
       Near c (quieted c a samples .0) (quieted c b samples .0) (last + c .nf)
   near-next last pa pb x y =
@@ -120,8 +120,8 @@ module _ (c : Lc3Config) (a b : Decoder) (sa : FitState c a) (sb : FitState c b)
       (append-alike (c .history - last) (past-y c a) (past-y c b) _ _ (omega (arith, ha .long-y)) y same)
 
 -- an inactive frame is remembered as such
-pub quieted-inactive : (c : Lc3Config) (d : Decoder) (samples : List Float) → quieted c d samples .0 .registers .«ltpf_active_prev» ≡ false
-unfolding accepted nextRegisters
+pub quieted-inactive : (c : Lc3Config) (d : Decoder) (samples : List Float) → quieted c d samples .0 .registers .marks .«ltpf_active_prev» ≡ false
+unfolding accepted nextMarks
 quieted-inactive c d samples = refl
 
 module _ (c : Lc3Config) (a b : Decoder) (sa : FitState c a) (sb : FitState c b) where
@@ -138,7 +138,7 @@ module _ (c : Lc3Config) (a b : Decoder) (sa : FitState c a) (sb : FitState c b)
 -- the limit's number of inactive frames makes two states agree
 pub agree-quiet : (c : Lc3Config) (a b : Decoder) → FitState c a → FitState c b → (ss : List (List Float)) → AllLong (c .nf) ss →
     length ss ≡ settledLimit (c .«n_ms») → Agree c (quietAll c a ss) (quietAll c b ss)
-unfolding accepted nextRegisters
+unfolding accepted nextMarks
 agree-quiet c a b sa sb [] l many = absurd (omega (arith, limit-some (c .«n_ms»)))
 agree-quiet c a b sa sb (s ∷ earlier) l many =
     let n = near-quiet c a b sa sb s earlier l in
@@ -153,8 +153,7 @@ agree-quiet c a b sa sb (s ∷ earlier) l many =
       left = n .left;
       right = n .right;
       previous = refl;
-      num = refl;
-      den = refl;
+      kept = refl;
       lag = refl;
       run = ra .0 ∙ sym (rb .0);
       settled = ra .1 ∙ sym (rb .1);

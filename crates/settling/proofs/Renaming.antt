@@ -2,7 +2,7 @@
 -- of the state, renamed, as long as both names find the same row but for the name.
 use Prim.Native.Nat.{ℕ}
 use mathlib.Core.Path.{_≡_, refl, ap, _∙_}
-use mathlib.Core.Bool.{Bool, true, false, cond}
+use mathlib.Core.Bool.{Bool, true, false}
 use mathlib.Core.List.{List}
 use lib.Dec.{leb, eqb}
 use lib.Ieee.{Float}
@@ -18,19 +18,18 @@ use Rattle.rates.specs.declared.config.Configured.the-variants.{Config, Refused
 use Rattle.rates.proofs.Renaming.{row-as, config-as, configured-as, test-as}
 use Rattle.lag.specs.Lag.{unscaledOf, scaledTo}
 use Rattle.lag.specs.declared.index.Unscaled.{Unscaled}
-use Rattle.lag.specs.declared.gain.Gain.{Gain}
 use Rattle.lag.specs.declared.pitch.PitchRecord.{PitchRecord}
 use Rattle.lag.specs.declared.pitch.PitchRecord.the-variants.{Absent, Present}
 use Rattle.lag.specs.declared.rescale.Lag.{Lag}
 use Rattle.lag.specs.declared.rescale.FoundLag.{FoundLag}
-use Rattle.coefficients.specs.Coefficients.{tapsOf, newTaps}
-use Rattle.control.specs.Pitch.{isActive, lagWhere, lagFor}
-use Rattle.control.specs.State.{lagFits, fit, fitWith}
-use Rattle.control.specs.Judge.{unless, setCounts, setFinite, planOf, lagJudged, judgedSide, rangeBy, judged}
-use Rattle.control.specs.Next.{nextRegisters}
-use Rattle.control.specs.declared.judge.Verdict.{Verdict}
-use Rattle.control.specs.declared.judge.Verdict.the-variants.{Accepted}
-use Rattle.decoder.specs.State.{blockFits, withBlock, fitDecoder}
+use Rattle.judging.specs.Pitch.{lagWhere, lagFor}
+use Rattle.control.specs.State.{lagFits}
+use Rattle.judging.specs.Judge.{unless, setCounts, setFinite, planOf, lagJudged, judgedSide, ranged, judged}
+use Rattle.control.specs.Next.{nextMarks}
+use Rattle.judging.specs.declared.plan.Verdict.{Verdict}
+use Rattle.judging.specs.declared.plan.Verdict.the-variants.{Accepted}
+use Rattle.on_ring.specs.Registers.{blockFits, ringFits, fitAs}
+use Rattle.decoder.specs.State.{fitDecoder}
 use Rattle.decoder.specs.Frame.{framedWith, framed, accepted, lostWith, lostFrom}
 use Rattle.decoder.specs.declared.state.Decoder.{Decoder}
 use Rattle.decoder.specs.declared.frame.Framed.{Framed}
@@ -56,30 +55,16 @@ module _ (hz : ℕ) where
       go (Unscaled.Quarters q) = refl
       go Unscaled.IndexTooLarge = refl
 
-  taps-as : (fs : Rate) (active : Bool) (gain : Gain) (lag : Lag) (nums dens : List Float) →
-      newTaps (row-as hz fs) active gain lag nums dens ≡ newTaps fs active gain lag nums dens
-  unfolding newTaps tapsOf
-  taps-as fs true gain lag nums dens = refl
-  taps-as fs false gain lag nums dens = refl
-
-  block-as : (start : ℕ) (c : Lc3Config) (fits : Bool) →
-      withBlock start (cond fits (Config (config-as hz c)) (Refused UnfitState)) ≡ configured-as hz (withBlock start (cond fits (Config c) (Refused UnfitState)))
-  unfolding blockFits
-  block-as start c true = test-as hz c (blockFits c start) UnfitState
-  block-as start c false = refl
-
   -- fitness, where the two names find the same but for the name
-  fit-as : (d : Decoder) → configOf hz (d .registers .duration) ≡ configured-as hz (configOf (d .registers .rate) (d .registers .duration)) →
+  fit-as : (d : Decoder) → configOf hz (d .registers .marks .duration) ≡ configured-as hz (configOf (d .registers .marks .rate) (d .registers .marks .duration)) →
       fitDecoder (renamed hz d) ≡ configured-as hz (fitDecoder d)
-  fit-as d same =
-      ap (λ (k : Configured). withBlock (d .«block_start_index») (fitWith (renamed hz d .registers) k)) same ∙
-      go (configOf (d .registers .rate) (d .registers .duration))
+  unfolding blockFits
+  fit-as d same = ap (λ (k : Configured). fitAs (renamed hz d .registers) k) same ∙ go (configOf (d .registers .marks .rate) (d .registers .marks .duration))
     where
-      go : (k : Configured) → withBlock (d .«block_start_index») (fitWith (renamed hz d .registers) (configured-as hz k)) ≡
-          configured-as hz (withBlock (d .«block_start_index») (fitWith (d .registers) k))
+      go : (k : Configured) → fitAs (renamed hz d .registers) (configured-as hz k) ≡ configured-as hz (fitAs (d .registers) k)
       go (Refused answer) = refl
       go (Config c) =
-          rw (lag-fits-as (c .fs) (d .registers .«ltpf_active_prev») (d .registers .lag)) (block-as (d .«block_start_index») c (fit c (d .registers)))
+          rw (lag-fits-as (c .fs) (d .registers .marks .«ltpf_active_prev») (d .registers .marks .lag)) (test-as hz c (ringFits c (d .registers)) UnfitState)
 
 -- a frame
 module _ (hz : ℕ) (d : Decoder) (f : Given) where
@@ -98,33 +83,33 @@ module _ (hz : ℕ) (d : Decoder) (f : Given) where
   tested false answer v w e = refl
 
   accepted-as : (c : Lc3Config) (lag : Lag) →
-      Same (Accepted (planOf (renamed hz d .registers) (config-as hz c) (f .side) lag)) (Accepted (planOf (d .registers) c (f .side) lag))
-  unfolding accepted filtered nextRegisters
-  accepted-as c lag = rw (taps-as hz (c .fs) (isActive (f .side .pitch)) (planOf (d .registers) c (f .side) lag .gain) lag (f .numerators) (f .denominators))
+      Same (Accepted (planOf (renamed hz d .registers .marks) (config-as hz c) (f .side) lag)) (Accepted (planOf (d .registers .marks) c (f .side) lag))
+  unfolding accepted filtered nextMarks
+  accepted-as c lag = refl
 
-  side-as : (c : Lc3Config) → Same (rangeBy (allInRange (f .samples)) (judgedSide (renamed hz d .registers) (config-as hz c) (f .side)))
-      (rangeBy (allInRange (f .samples)) (judgedSide (d .registers) c (f .side)))
+  side-as : (c : Lc3Config) → Same (ranged (allInRange (f .samples)) (judgedSide (renamed hz d .registers .marks) (config-as hz c) (f .side)))
+      (ranged (allInRange (f .samples)) (judgedSide (d .registers .marks) c (f .side)))
   unfolding judgedSide
   side-as c = rw (lag-for-as hz (c .fs) (f .side .pitch)) (go (leb (f .side .nbits) 3200) (lagFor (c .fs) (f .side .pitch)))
     where
       go : (b : Bool) (l : FoundLag) →
-          Same (rangeBy (allInRange (f .samples)) (unless b TooManyBits (lagJudged (renamed hz d .registers) (config-as hz c) (f .side) l)))
-          (rangeBy (allInRange (f .samples)) (unless b TooManyBits (lagJudged (d .registers) c (f .side) l)))
+          Same (ranged (allInRange (f .samples)) (unless b TooManyBits (lagJudged (renamed hz d .registers .marks) (config-as hz c) (f .side) l)))
+          (ranged (allInRange (f .samples)) (unless b TooManyBits (lagJudged (d .registers .marks) c (f .side) l)))
       go false l = refl
       go true FoundLag.IndexTooLarge = refl
       go true (FoundLag.Lag lag) = tested (allInRange (f .samples)) SampleOutOfRange _ _ (accepted-as c lag)
 
-  judged-as : (k : Configured) → Same (judged (renamed hz d .registers) (configured-as hz k) (f .numerators) (f .denominators) (f .side) (f .samples))
-      (judged (d .registers) k (f .numerators) (f .denominators) (f .side) (f .samples))
+  judged-as : (k : Configured) → Same (judged (renamed hz d .registers .marks) (configured-as hz k) (f .numerators) (f .denominators) (f .side) (f .samples))
+      (judged (d .registers .marks) k (f .numerators) (f .denominators) (f .side) (f .samples))
   unfolding judged
   judged-as (Refused answer) = refl
   judged-as (Config c) =
-      tested (setCounts c (f .numerators) (f .denominators)) CoefficientCount _ _
+      tested (setCounts (c .fs .«l_den») (f .numerators) (f .denominators)) CoefficientCount _ _
       (tested (setFinite (f .numerators) (f .denominators)) CoefficientNotFinite _ _
       (tested (eqb (length (f .samples)) (c .nf)) SampleCount _ _ (side-as c)))
 
 -- what a frame and a loss mark of the renamed state give
-module _ (hz : ℕ) (d : Decoder) (same : configOf hz (d .registers .duration) ≡ configured-as hz (configOf (d .registers .rate) (d .registers .duration))) where
+module _ (hz : ℕ) (d : Decoder) (same : configOf hz (d .registers .marks .duration) ≡ configured-as hz (configOf (d .registers .marks .rate) (d .registers .marks .duration))) where
   pub framed-renamed : (f : Given) → framedBy (renamed hz d) f ≡ (framed-as hz (framedBy d f .0), framedBy d f .1)
   unfolding framed
   framed-renamed f = rw (fit-as hz d same) (judged-as hz d f (fitDecoder d))

@@ -19,12 +19,12 @@ module _ (rate duration : ℕ) where
   never-unfit-answer c earlier e =
       let k = followed rate duration earlier in omega (arith, answer-small (k .config) (fromStart rate duration earlier) (k .fit) c)
 
-  pub run-within-limit : (calls : List Call) → fromStart rate duration calls .registers .run ≤ limitOf (fromStart rate duration calls)
+  pub run-within-limit : (calls : List Call) → fromStart rate duration calls .registers .marks .run ≤ limitOf (fromStart rate duration calls)
   run-within-limit calls = let k = followed rate duration calls in rw (limit-found (k .config) (fromStart rate duration calls) (k .fit)) (omega (arith, k .counted .run))
 
   -- the mark in the state
   pub marked-exactly : (calls : List Call) →
-      fromStart rate duration calls .registers .settled ≡ settledBy (limitOf (fromStart rate duration calls)) (eventsFrom rate duration calls)
+      fromStart rate duration calls .registers .marks .settled ≡ settledBy (limitOf (fromStart rate duration calls)) (eventsFrom rate duration calls)
   marked-exactly calls = let k = followed rate duration calls in rw (limit-found (k .config) (fromStart rate duration calls) (k .fit)) (k .counted .settled)
 
   -- the report that a call gives

@@ -2,18 +2,19 @@
 use Prim.Native.Nat.{ℕ, zero, suc, _≤_}
 use mathlib.Core.Path.{_≡_, refl, sym, _∙_, ap}
 use mathlib.Core.Bool.{Bool, true, false, cond}
-use mathlib.Core.List.{List, [], _∷_, _++_, map, foldr-append}
+use mathlib.Core.List.{List, [], _∷_, _++_, map}
 use native.Mathlib.Omega.{arith}
 use borrow.Author.Tests.{leb-true, leb-false}
 use lib.Dec.{leb}
 use lib.ListN.{length}
+use Rattle.calls.proofs.Both as both
 use Rattle.rates.specs.declared.config.Lc3Config.{Lc3Config}
 use Rattle.control.specs.State.{settledLimit}
-use Rattle.control.specs.Pitch.{isActive}
+use Rattle.judging.specs.Pitch.{isActive}
 use Rattle.control.proofs.Fit.{limit-some}
-use Rattle.control.proofs.Judging.{declined, passed}
+use Rattle.judging.proofs.Judging.{declined, passed}
 use Rattle.decoder.specs.declared.state.Decoder.{Decoder}
-use Rattle.settling.specs.Calls.{Given, Call, frame, after, afterAll, Event, restart, quiet, active, refusal, events, since, row, longest, still, heard, FitState}
+use Rattle.settling.specs.Calls.{Given, Call, frame, decoderWith, frames, afterAll, Event, restart, quiet, active, refusal, event, events, since, row, longest, still, heard, FitState}
 use Rattle.settling.proofs.Judging.{OutcomeOf, outcomeOf, happened, event-judged}
 use Rattle.settling.proofs.Held.{limit-found}
 use Rattle.settling.proofs.FitStates.{frames-fit}
@@ -43,11 +44,10 @@ since-frames c (f ∷ earlier) es e = happened-since c f (outcomeOf c f) (happen
 
 -- calls after calls
 pub after-both : (d : Decoder) (late early : List Call) → afterAll d (late ++ early) ≡ afterAll (afterAll d early) late
-after-both d late early = foldr-append (λ c before. after before c) d late early
+after-both = both.after-both (decoderWith frames)
 
 pub events-both : (d : Decoder) (late early : List Call) → events d (late ++ early) ≡ events (afterAll d early) late ++ events d early
-events-both d [] early = refl
-events-both d (c ∷ late) early = rw (after-both d late early, events-both d late early)
+events-both = both.each-both (decoderWith frames) event
 
 -- a row of n inactive frames up to the latest: the frames that hold just those, and the frames before
 record Window (c : Lc3Config) (n : ℕ) (fs : List Given) : Type 0 where

@@ -1,7 +1,7 @@
 -- A frame of 0.0 with a lent set of 0.0, inactive or active with the longest lag: every fit state accepts it.
 use Prim.Native.Nat.{ℕ, zero, suc, _+_, _-_, _*_, _<_}
 use mathlib.Core.Path.{_≡_, refl, _∙_, ap}
-use mathlib.Core.Bool.{Bool, true, false}
+use mathlib.Core.Bool.{Bool, true, false, true≢false}
 use mathlib.Core.List.{List, _++_}
 use native.Mathlib.Omega.{arith}
 use borrow.Author.Tests.{eq-eqb}
@@ -12,21 +12,21 @@ use Rattle.floats.specs.Single.{0·0, at, allFinite, inRange, allInRange}
 use Rattle.rates.specs.declared.table.Rate.{Rate}
 use Rattle.rates.specs.declared.config.Lc3Config.{Lc3Config}
 use Rattle.lag.specs.Lag.{quarters, lagOf}
+use Rattle.lag.specs.Sent.{sentOf}
 use Rattle.lag.specs.Gain.{gainOf, bitsOf}
 use Rattle.lag.specs.declared.pitch.PitchRecord.{PitchRecord}
 use Rattle.lag.specs.declared.pitch.PitchRecord.the-variants.{Absent, Present}
 use Rattle.lag.specs.declared.rescale.Lag.{Lag}
 use Rattle.lag.specs.declared.rescale.FoundLag.{FoundLag}
-use Rattle.coefficients.specs.Coefficients.{newTaps}
+use Rattle.coefficients.specs.Coefficients.{newFilter, Filter}
 use Rattle.filter.specs.Fade.{faded, grow}
 use Rattle.filter.specs.Transition.{transitionOf, outputs, caseActivated}
-use Rattle.coefficients.specs.declared.Taps.{Taps}
 use Rattle.filter.specs.declared.fade.Direction.the-variants.{In}
 use Rattle.filter.proofs.Growing.{length-grow}
-use Rattle.control.specs.Pitch.{noLag, lagFor}
-use Rattle.control.specs.State.{lagFits}
-use Rattle.control.specs.Judge.{planOf, judgedSide, judged}
-use Rattle.control.proofs.Fit.{lag-for-fits}
+use Rattle.control.specs.State.{noLag, lagFits}
+use Rattle.judging.specs.Pitch.{lagFor}
+use Rattle.judging.specs.Judge.{planOf, judgedSide, judged}
+use Rattle.judging.proofs.Lags.{lag-for-fits}
 use Rattle.rings.specs.Samples.{filtered}
 use Rattle.decoder.specs.Frame.{done, accepted, framed}
 use Rattle.decoder.specs.declared.state.Decoder.{Decoder}
@@ -74,7 +74,7 @@ silence c pitch = record {
 -- every fit state accepts it
 silence-done : (c : Lc3Config) (d : Decoder) → FitState c d → (pitch : PitchRecord) (lag : Lag) → lagFor (c .fs) pitch ≡ FoundLag.Lag lag →
     framedBy d (silence c pitch) ≡
-    done (accepted d (planOf (d .registers) c (silence c pitch .side) lag) (silence c pitch .numerators) (silence c pitch .denominators) (silence c pitch .samples))
+    done (accepted d (planOf (d .registers .marks) c (silence c pitch .side) lag) (silence c pitch .numerators) (silence c pitch .denominators) (silence c pitch .samples))
 unfolding framed judged judgedSide
 silence-done c d s pitch lag l =
     rw (
@@ -96,8 +96,8 @@ abbrev pub asked : PitchRecord
 asked = Present (record { index = 511; active = true })
 
 -- what of the frame matters after judging
-abbrev pub silentFrame : (c : Lc3Config) (active : Bool) (lag : Lag) → lagFits (c .fs) active lag ≡ true → Admitted c
-silentFrame c active lag fits = record {
+abbrev pub silentFrame : (c : Lc3Config) (active : Bool) (lag : Lag) → lagFits (c .fs) active lag ≡ true → (active ≡ false → lag ≡ noLag) → Admitted c
+silentFrame c active lag fits none = record {
   active = active;
   gain = gainOf (c .fs .«fs_ind») (bitsOf (c .«n_ms») 0);
   lag = lag;
@@ -105,25 +105,26 @@ silentFrame c active lag fits = record {
   denominators = lent-dens c;
   samples = silent c;
   lag-fits = fits;
+  lagless = none;
   count = length-silent c;
 }
 
 pub longest-fits : (fs : Rate) → lagFits fs true (longest fs) ≡ true
-longest-fits fs = lag-for-fits fs asked (longest fs) refl
+longest-fits fs = lag-for-fits fs (sentOf asked) (longest fs) refl
 
 abbrev pub loud : (c : Lc3Config) → Admitted c
-loud c = silentFrame c true (longest (c .fs)) (longest-fits (c .fs))
+loud c = silentFrame c true (longest (c .fs)) (longest-fits (c .fs)) (λ e. absurd (true≢false e))
 
 -- its filter
-abbrev pub loudTaps : Lc3Config → Taps
-loudTaps c = newTaps (c .fs) true (gainOf (c .fs .«fs_ind») (bitsOf (c .«n_ms») 0)) (longest (c .fs))
+abbrev pub loudFilter : Lc3Config → Filter
+loudFilter c = newFilter (c .fs .«l_den») true (gainOf (c .fs .«fs_ind») (bitsOf (c .«n_ms») 0)) (longest (c .fs))
     (lent-nums c) (lent-dens c)
 
 -- a silent inactive frame, given to a fit state
 module _ (c : Lc3Config) (d : Decoder) (s : FitState c d) where
   pub after-silence : after d (frame (silence c Absent)) ≡ quieted c d (silent c) .0
   after-silence = ap (λ (r : Framed × List Float). r .0 .decoder) (silence-done c d s Absent noLag refl)
-      ∙ ap (λ (r : Decoder × List Float). r .0) (same-quieted c d (silentFrame c false noLag (no-lag-fits (c .fs))) refl)
+      ∙ ap (λ (r : Decoder × List Float). r .0) (same-quieted c d (silentFrame c false noLag (no-lag-fits (c .fs)) (λ e. refl)) refl)
 
   pub silence-quiet : event d (frame (silence c Absent)) ≡ quiet (silent c)
   silence-quiet = rw (silence-done c d s Absent noLag refl)
@@ -143,14 +144,14 @@ module _ (c : Lc3Config) (d : Decoder) (s : FitState c d) where
       ∙ List·getD-append (past-y c d) _ nan (c .nf + i) (omega (arith, held c d s .long-y)))
 
   -- the first sample of an active frame after an inactive one
-  pub first-sample : d .registers .«ltpf_active_prev» ≡ false →
-      at (admit d (loud c) .1) 0 ≡ faded In (length (past-y c d)) (c .fs .fade) (loudTaps c) (past-x c d ++ silent c) (past-y c d)
+  pub first-sample : d .registers .marks .«ltpf_active_prev» ≡ false →
+      at (admit d (loud c) .1) 0 ≡ faded In (length (past-y c d)) (c .fs .fade) (loudFilter c) (past-x c d ++ silent c) (past-y c d)
   unfolding accepted filtered transitionOf outputs caseActivated
   first-sample p =
       let k = held c d s in
       let z = k .sizes in
       let e : c .history + 0 ≡ length (past-y c d) = omega (arith, k .long-y) in
       rw p (getD-drop (c .history) _ 0 nan
-      ∙ rw e (at-grown _ (grow (faded In (length (past-y c d)) (c .fs .fade) (loudTaps c) (past-x c d ++ silent c)) (past-y c d) (c .fs .fade)) _ (length (past-y c d))
-      (omega (arith, length-grow (faded In (length (past-y c d)) (c .fs .fade) (loudTaps c) (past-x c d ++ silent c)) (past-y c d) (c .fs .fade)))
+      ∙ rw e (at-grown _ (grow (faded In (length (past-y c d)) (c .fs .fade) (loudFilter c) (past-x c d ++ silent c)) (past-y c d) (c .fs .fade)) _ (length (past-y c d))
+      (omega (arith, length-grow (faded In (length (past-y c d)) (c .fs .fade) (loudFilter c) (past-x c d ++ silent c)) (past-y c d) (c .fs .fade)))
       ∙ at-first _ (past-y c d) (c .fs .fade) (omega arith)))

@@ -15,14 +15,13 @@ use Rattle.rates.specs.declared.config.Configured.the-variants.{Config}
 use Rattle.lag.specs.Gain.{gainOf, bitsOf, hundredths}
 use Rattle.lag.specs.declared.gain.Gain.{Gain}
 use Rattle.lag.specs.declared.gain.Gain.the-variants.{Off, On}
-use Rattle.coefficients.specs.Coefficients.{gainValue, tapsOf, newTaps}
+use Rattle.coefficients.specs.Coefficients.{gainValue, filterOf, newFilter}
 use Rattle.filter.specs.Fade.{factor, faded}
 use Rattle.filter.specs.Transition.{outputs}
 use Rattle.filter.specs.declared.fade.Direction.the-variants.{In}
-use Rattle.control.specs.State.{clearedRegisters}
+use Rattle.control.specs.State.{clearedMarks}
 use Rattle.control.proofs.Sizes.{FromTable, from-table, sized}
-use Rattle.control.proofs.Fit.{gain-row}
-use Rattle.control.proofs.Reaching.{inside-reach}
+use Rattle.judging.proofs.Readable.{gain-row, inside-reach}
 use Rattle.rings.specs.Ring.{straight}
 use Rattle.decoder.specs.State.{cleared}
 use Rattle.decoder.specs.declared.state.Decoder.{Decoder}
@@ -33,12 +32,12 @@ use Rattle.settling.proofs.Hearing.{quieted, quiet-frame}
 use Rattle.settling.proofs.FitStates.{cleared-fit}
 use Rattle.settling.proofs.Quieting.{quiet-copy, quieted-inactive}
 use Rattle.settling.proofs.Nans.{ZeroTo, F-zero, append-zero, moved-zero, scaled-zero}
-use Rattle.settling.proofs.Silence.{longest, longest-fits, silent, length-silent, loud, loudTaps, silent-fit, first-sample}
+use Rattle.settling.proofs.Silence.{longest, longest-fits, silent, length-silent, loud, loudFilter, silent-fit, first-sample}
 
 -- nothing but 0.0, and its last frame was inactive
 pub record Silent (c : Lc3Config) (d : Decoder) : Type 0 where
   pub fit : FitState c d
-  pub inactive : d .registers .«ltpf_active_prev» ≡ false
+  pub inactive : d .registers .marks .«ltpf_active_prev» ≡ false
   pub inputs : ZeroTo (c .history) (past-x c d)
   pub outputs : ZeroTo (c .history) (past-y c d)
 
@@ -48,7 +47,7 @@ unfolding straight
 at-past ring history i h = rw append-nil (getD-take (history - 0) ring i nan (omega arith))
 
 pub silent-start : (rate duration : ℕ) (c : Lc3Config) → configOf rate duration ≡ Config c → Silent c (cleared rate duration)
-unfolding cleared clearedRegisters
+unfolding cleared clearedMarks
 silent-start rate duration c e =
     let z = sized c (from-table rate duration c e) in
     let zero-past : ZeroTo (c .history) (straight (replicate 1080 0·0) (c .history) 0) =
@@ -87,9 +86,9 @@ gain-zero i t = go (ltb t (320 + 80 * i)) (ltb t (400 + 80 * i)) (ltb t (480 + 8
     go false false false false = (refl, refl)
 
 -- and so is every coefficient of the active frame
-zero-taps : (c : Lc3Config) → FromTable c → ZeroTo (c .fs .«l_den» - 1) (loudTaps c .«c_num») × ZeroTo (c .fs .«l_den» + 1) (loudTaps c .«c_den»)
-unfolding newTaps tapsOf
-zero-taps c k =
+zero-filter : (c : Lc3Config) → FromTable c → ZeroTo (c .fs .«l_den» - 1) (loudFilter c .«c_num») × ZeroTo (c .fs .«l_den» + 1) (loudFilter c .«c_den»)
+unfolding newFilter filterOf
+zero-filter c k =
     let z = sized c k in
     let g = gain-zero (c .fs .«fs_ind») (bitsOf (c .«n_ms») 0) in (
       scaled-zero 11 (c .fs .«l_den» - 1) _ _ (g .1) (gain-row (c .fs .«fs_ind») (bitsOf (c .«n_ms») 0)),
@@ -98,18 +97,18 @@ zero-taps c k =
 
 -- its first sample is a number
 pub silent-first : (c : Lc3Config) (d : Decoder) → Silent c d → at (admit d (loud c) .1) 0 ≡ 0·0 ⊖ 0·0 ⊗ factor In (c .fs .fade) 0
-unfolding faded newTaps tapsOf
+unfolding faded newFilter filterOf
 silent-first c d s =
     let k = held c d (s .fit) in
     let z = k .sizes in
-    let t = zero-taps c (k .from) in
-    let i = inside-reach c (k .from) (loudTaps c) refl (longest-fits (c .fs)) in
+    let t = zero-filter c (k .from) in
+    let i = inside-reach c (k .from) (loudFilter c) refl (longest (c .fs)) refl (longest-fits (c .fs)) in
     let e : length (past-y c d) - length (past-y c d) ≡ 0 = omega arith in
     let x = append-zero (past-x c d) (silent c) (c .history) (c .nf) (k .long-x) (s .inputs) (zero-samples (c .nf)) in
     let long = k .long-y in
     first-sample c d (s .fit) (s .inactive)
     ∙ rw (
-      F-zero (loudTaps c) (past-x c d ++ silent c) (past-y c d) (length (past-y c d)) (omega arith) (omega arith) (t .0) (t .1)
+      F-zero (loudFilter c) (past-x c d ++ silent c) (past-y c d) (length (past-y c d)) (omega arith) (omega arith) (t .0) (t .1)
           (λ j h. x j (omega arith)) (λ j h. s .outputs j (omega arith)),
       x (length (past-y c d)) (omega arith),
       e,

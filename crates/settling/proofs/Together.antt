@@ -21,7 +21,7 @@ use Rattle.settling.proofs.Held.{limit-found}
 use Rattle.settling.proofs.FitStates.{frames-fit}
 use Rattle.settling.proofs.Counting.{row-longest}
 use Rattle.settling.proofs.SettledExactly.{always-fit, marked-exactly}
-use Rattle.settling.proofs.Agreeing.{same-replies}
+use Rattle.settling.proofs.Agreeing.{Agree, same-replies}
 use Rattle.settling.proofs.Hearing.{heard-calls}
 use Rattle.settling.proofs.Agreement.{same-config, agreement}
 use Rattle.settling.proofs.Shared.{happenings, events-happen, since-frames, after-both, events-both, agree-shared}
@@ -37,7 +37,7 @@ heard-row (refusal ∷ late) early q = heard-row late early q
 -- what the report says of frames since a restart, and of a row of inactive frames
 module _ (rate duration : ℕ) (before : List Call) where
   reported-frames : (c : Lc3Config) → FitState c (fromStart rate duration before) → since (eventsFrom rate duration before) ≡ [] → (fs : List Given) →
-      afterAll (fromStart rate duration before) (map frame fs) .registers .settled ≡ true → settledLimit (c .«n_ms») ≤ longest (happenings c fs)
+      afterAll (fromStart rate duration before) (map frame fs) .registers .marks .settled ≡ true → settledLimit (c .«n_ms») ≤ longest (happenings c fs)
   reported-frames c s anew fs settled =
       let d = fromStart rate duration before in
       let state = after-both (started rate duration .decoder) (map frame fs) before in
@@ -53,7 +53,7 @@ module _ (rate duration : ℕ) (before : List Call) where
   reported-row : (c : Lc3Config) → FitState c (fromStart rate duration before) → (calls : List Call) →
       still (events (fromStart rate duration before) calls) ≡ true →
       length (heard (events (fromStart rate duration before) calls)) ≡ limitOf (fromStart rate duration before) →
-      afterAll (fromStart rate duration before) calls .registers .settled ≡ true
+      afterAll (fromStart rate duration before) calls .registers .marks .settled ≡ true
   reported-row c s calls q many =
       let d = fromStart rate duration before in
       let was = eventsFrom rate duration (calls ++ before) in
@@ -62,30 +62,36 @@ module _ (rate duration : ℕ) (before : List Call) where
       rw state (limit-found c (afterAll d calls) (heard-calls c d s calls q .fit) ∙ sym (limit-found c d s)) in
       let heard-all : length (heard (events d calls)) ≤ row (since was) =
       rw (events-both (started rate duration .decoder) calls before) (heard-row (events d calls) (eventsFrom rate duration before) q) in
-      ap (λ (e : Decoder). e .registers .settled) (sym state) ∙ marked-exactly rate duration (calls ++ before)
+      ap (λ (e : Decoder). e .registers .marks .settled) (sym state) ∙ marked-exactly rate duration (calls ++ before)
       ∙ le-leb (limitOf (fromStart rate duration (calls ++ before))) (longest (since was)) (omega (arith, row-longest (since was)))
 
 -- decoders from a start, each with calls of its own, of one rate and duration
 module _ (rate-a duration-a rate-b duration-b : ℕ) (before-a before-b : List Call)
-    (rates : fromStart rate-a duration-a before-a .registers .rate ≡ fromStart rate-b duration-b before-b .registers .rate)
-    (durations : fromStart rate-a duration-a before-a .registers .duration ≡ fromStart rate-b duration-b before-b .registers .duration) where
-  pub together : since (eventsFrom rate-b duration-b before-b) ≡ [] → (shared : List Given) →
-      afterAll (fromStart rate-b duration-b before-b) (map frame shared) .registers .settled ≡ true →
-      (afterAll (fromStart rate-a duration-a before-a) (map frame shared) .registers .settled ≡ true) ×
-      ((later : List Given) → replies (afterAll (fromStart rate-a duration-a before-a) (map frame shared)) (map frame later) ≡
-      replies (afterAll (fromStart rate-b duration-b before-b) (map frame shared)) (map frame later))
-  together anew shared settled =
+    (rates : fromStart rate-a duration-a before-a .registers .marks .rate ≡ fromStart rate-b duration-b before-b .registers .marks .rate)
+    (durations : fromStart rate-a duration-a before-a .registers .marks .duration ≡ fromStart rate-b duration-b before-b .registers .marks .duration) where
+  -- they agree once the one that was just restarted is settled
+  pub agreed : since (eventsFrom rate-b duration-b before-b) ≡ [] → (shared : List Given) →
+      afterAll (fromStart rate-b duration-b before-b) (map frame shared) .registers .marks .settled ≡ true →
+      Agree (always-fit rate-a duration-a before-a .0) (afterAll (fromStart rate-a duration-a before-a) (map frame shared))
+      (afterAll (fromStart rate-b duration-b before-b) (map frame shared))
+  agreed anew shared settled =
       let a = fromStart rate-a duration-a before-a in
       let b = fromStart rate-b duration-b before-b in
       let fa = always-fit rate-a duration-a before-a in
       let sb = same-config a b fa (always-fit rate-b duration-b before-b) rates durations in
-      let g = agree-shared (fa .0) a b (fa .1) sb shared (reported-frames rate-b duration-b before-b (fa .0) sb anew shared settled) in
-      (g .settled ∙ settled, same-replies (fa .0) (afterAll a (map frame shared)) (afterAll b (map frame shared)) g)
+      agree-shared (fa .0) a b (fa .1) sb shared (reported-frames rate-b duration-b before-b (fa .0) sb anew shared settled)
+
+  pub together : since (eventsFrom rate-b duration-b before-b) ≡ [] → (shared : List Given) →
+      afterAll (fromStart rate-b duration-b before-b) (map frame shared) .registers .marks .settled ≡ true →
+      (afterAll (fromStart rate-a duration-a before-a) (map frame shared) .registers .marks .settled ≡ true) ×
+      ((later : List Given) → replies (afterAll (fromStart rate-a duration-a before-a) (map frame shared)) (map frame later) ≡
+      replies (afterAll (fromStart rate-b duration-b before-b) (map frame shared)) (map frame later))
+  together anew shared settled = let g = agreed anew shared settled in (g .settled ∙ settled, same-replies _ _ _ g)
 
   pub together-since-settling : (calls-a calls-b : List Call) →
       SettleAlike (fromStart rate-a duration-a before-a) (fromStart rate-b duration-b before-b) calls-a calls-b →
-      (afterAll (fromStart rate-a duration-a before-a) calls-a .registers .settled ≡ true) ×
-      (afterAll (fromStart rate-b duration-b before-b) calls-b .registers .settled ≡ true) ×
+      (afterAll (fromStart rate-a duration-a before-a) calls-a .registers .marks .settled ≡ true) ×
+      (afterAll (fromStart rate-b duration-b before-b) calls-b .registers .marks .settled ≡ true) ×
       ((later : List Given) → replies (afterAll (fromStart rate-a duration-a before-a) calls-a) (map frame later) ≡
       replies (afterAll (fromStart rate-b duration-b before-b) calls-b) (map frame later))
   together-since-settling calls-a calls-b q =

@@ -19,8 +19,8 @@ use Rattle.rates.proofs.Rows.{at-row}
 use Rattle.lag.specs.declared.pitch.PitchRecord.the-variants.{Absent}
 use Rattle.filter.specs.Fade.{factor}
 use Rattle.filter.specs.declared.fade.Direction.the-variants.{In}
-use Rattle.control.specs.State.{clearedRegisters}
-use Rattle.control.specs.Next.{nextRegisters}
+use Rattle.control.specs.State.{clearedMarks}
+use Rattle.control.specs.Next.{nextMarks}
 use Rattle.control.proofs.Sizes.{from-table}
 use Rattle.decoder.specs.State.{cleared}
 use Rattle.decoder.specs.declared.state.Decoder.{Decoder}
@@ -42,8 +42,8 @@ pub record Disagree (rate duration : ℕ) : Type 0 where
   pub right : Decoder
   pub left-fits : Fit left
   pub right-fits : Fit right
-  pub rates : (left .registers .rate ≡ rate) × (right .registers .rate ≡ rate)
-  pub durations : (left .registers .duration ≡ duration) × (right .registers .duration ≡ duration)
+  pub rates : (left .registers .marks .rate ≡ rate) × (right .registers .marks .rate ≡ rate)
+  pub durations : (left .registers .marks .duration ≡ duration) × (right .registers .marks .duration ≡ duration)
   pub shared : Given
   pub left-quiet : events left (frame shared ∷ frame shared ∷ []) ≡ quiet (shared .samples) ∷ quiet (shared .samples) ∷ []
   pub right-quiet : events right (frame shared ∷ frame shared ∷ []) ≡ quiet (shared .samples) ∷ quiet (shared .samples) ∷ []
@@ -71,7 +71,7 @@ unfolding isNan
 number v t e = subst (λ (w : Float). T (not (isNan w))) e t
 
 pub two-frames-disagree : (rate duration : ℕ) (c : Lc3Config) → configOf rate duration ≡ Config c → Disagree rate duration
-unfolding cleared clearedRegisters nextRegisters
+unfolding cleared clearedMarks nextMarks
 two-frames-disagree rate duration c e =
     let a = cleared rate duration in
     let b = noisy rate duration c in

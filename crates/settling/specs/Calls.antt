@@ -2,19 +2,22 @@
 use Prim.Native.Nat.{ℕ, _+_, max}
 use mathlib.Core.Path.{_≡_}
 use mathlib.Core.Bool.{Bool, true, false, cond}
-use mathlib.Core.List.{List, [], _∷_, foldr}
+use mathlib.Core.List.{List, [], _∷_}
 use lib.Dec.{leb, eqb}
 use lib.Ieee.{Float}
 use lib.ListN.{length}
+use Rattle.calls.specs.Engine as engine
+use Rattle.calls.specs.Engine.{Engine}
 use Rattle.rates.specs.Answers.{numberOf}
 use Rattle.rates.specs.Durations.{durationOf}
 use Rattle.rates.specs.declared.answer.Answer.{Answer}
 use Rattle.rates.specs.declared.duration.FoundDuration.{FoundDuration}
 use Rattle.rates.specs.declared.config.Lc3Config.{Lc3Config}
 use Rattle.rates.specs.declared.config.Configured.the-variants.{Config}
-use Rattle.control.specs.Pitch.{isActive}
+use Rattle.lag.specs.declared.pitch.PitchRecord.{PitchRecord}
+use Rattle.judging.specs.Pitch.{isActive}
 use Rattle.control.specs.State.{settledLimit}
-use Rattle.control.specs.declared.judge.SideInfo.{SideInfo}
+use Rattle.judging.specs.declared.plan.SideInfo.{SideInfo}
 use Rattle.decoder.specs.State.{started, fitDecoder}
 use Rattle.decoder.specs.Frame.{framed, lostFrom}
 use Rattle.decoder.specs.declared.state.Decoder.{Decoder}
@@ -28,20 +31,16 @@ pub record Given : Type 0 where
   pub samples : List Float
 
 -- a call: a start with a rate and a duration, a frame, or a loss mark
-pub data Call : Type 0 where
-  start : ℕ → ℕ → Call
-  frame : Given → Call
-  loss : Call
+pub data CallWith (Frame : Type 0) : Type 0 where
+  start : ℕ → ℕ → CallWith Frame
+  frame : Frame → CallWith Frame
+  loss : CallWith Frame
 
--- a frame call's result and its samples at exit
-abbrev pub framedBy : Decoder → Given → Framed × List Float
-framedBy d f = framed d (f .numerators) (f .denominators) (f .side) (f .samples)
-
--- the state after a call
-abbrev pub after : Decoder → Call → Decoder
-after d (start rate duration) = started rate duration .decoder
-after d (frame f) = framedBy d f .0 .decoder
-after d loss = lostFrom d .decoder
+-- what a frame gives back, with its samples at exit, and its pitch record and samples
+pub record Frames (Frame : Type 0) : Type 0 where
+  pub framedBy : Decoder → Frame → Framed × List Float
+  pub pitchOf : Frame → PitchRecord
+  pub samplesOf : Frame → List Float
 
 -- what the caller sees: the answer, the settled report and the samples at exit
 pub record Reply : Type 0 where
@@ -52,11 +51,6 @@ pub record Reply : Type 0 where
 abbrev pub replyOf : Framed × List Float → Reply
 replyOf r = record { answer = r .0 .answer; settled = r .0 .settled; samples = r .1 }
 
-abbrev pub reply : Decoder → Call → Reply
-reply d (start rate duration) = record { answer = started rate duration .answer; settled = started rate duration .decoder .registers .settled; samples = [] }
-reply d (frame f) = replyOf (framedBy d f)
-reply d loss = replyOf (lostFrom d, [])
-
 -- What a call was: a start, refused or not, or a loss mark (no fit state refuses one); an accepted inactive frame, with its samples; an
 -- accepted active frame; a refused frame.
 pub data Event : Type 0 where
@@ -65,23 +59,56 @@ pub data Event : Type 0 where
   active : Event
   refusal : Event
 
+-- a decoder that is given such frames: the state after a call, what it replies, and what it was
+module _ {Frame : Type 0} (k : Frames Frame) where
+  abbrev pub afterWith : Decoder → CallWith Frame → Decoder
+  afterWith d (start rate duration) = started rate duration .decoder
+  afterWith d (frame f) = k .framedBy d f .0 .decoder
+  afterWith d loss = lostFrom d .decoder
+
+  abbrev pub replyWith : Decoder → CallWith Frame → Reply
+  replyWith d (start rate duration) =
+      record { answer = started rate duration .answer; settled = started rate duration .decoder .registers .marks .settled; samples = [] }
+  replyWith d (frame f) = replyOf (k .framedBy d f)
+  replyWith d loss = replyOf (lostFrom d, [])
+
+  abbrev pub eventWith : Decoder → CallWith Frame → Event
+  eventWith d (start rate duration) = restart
+  eventWith d (frame f) =
+      cond (eqb (numberOf (k .framedBy d f .0 .answer)) 0) (cond (isActive (k .pitchOf f)) active (quiet (k .samplesOf f))) refusal
+  eventWith d loss = restart
+
+  abbrev pub decoderWith : Engine Decoder (CallWith Frame) Reply
+  decoderWith = record { after = afterWith; reply = replyWith }
+
+-- a decoder by itself
+abbrev pub framedBy : Decoder → Given → Framed × List Float
+framedBy d f = framed d (f .numerators) (f .denominators) (f .side) (f .samples)
+
+abbrev pub frames : Frames Given
+frames = record { framedBy = framedBy; pitchOf = λ f. f .side .pitch; samplesOf = λ f. f .samples }
+
+abbrev pub Call : Type 0
+Call = CallWith Given
+
+abbrev pub after : Decoder → Call → Decoder
+after = afterWith frames
+
+abbrev pub reply : Decoder → Call → Reply
+reply = replyWith frames
+
 abbrev pub event : Decoder → Call → Event
-event d (start rate duration) = restart
-event d (frame f) = cond (eqb (numberOf (framedBy d f .0 .answer)) 0) (cond (isActive (f .side .pitch)) active (quiet (f .samples))) refusal
-event d loss = restart
+event = eventWith frames
 
--- the state after all of the calls
+-- the state after all of the calls, what each of them replied, and what each was
 abbrev pub afterAll : Decoder → List Call → Decoder
-afterAll d calls = foldr (λ c before. after before c) d calls
+afterAll = engine.afterAll (decoderWith frames)
 
--- what each of the calls gave, or was
 abbrev pub replies : Decoder → List Call → List Reply
-replies d [] = []
-replies d (c ∷ earlier) = reply (afterAll d earlier) c ∷ replies d earlier
+replies = engine.replies (decoderWith frames)
 
 abbrev pub events : Decoder → List Call → List Event
-events d [] = []
-events d (c ∷ earlier) = event (afterAll d earlier) c ∷ events d earlier
+events = engine.each (decoderWith frames) event
 
 -- the state, and what the calls were, from a start
 abbrev pub fromStart : ℕ → ℕ → List Call → Decoder
@@ -117,7 +144,7 @@ limitFor FoundDuration.Unknown = 0
 limitFor (FoundDuration.Duration t) = settledLimit t
 
 abbrev pub limitOf : Decoder → ℕ
-limitOf d = limitFor (durationOf (d .registers .duration))
+limitOf d = limitFor (durationOf (d .registers .marks .duration))
 
 -- the settled rule: since the last restart, the limit's number of inactive frames in a row has been reached
 abbrev pub settledBy : ℕ → List Event → Bool
@@ -148,10 +175,14 @@ pub record FitState (c : Lc3Config) (d : Decoder) : Type 0 where
 abbrev pub Fit : Decoder → Type 0
 Fit d = (c : Lc3Config) × FitState c d
 
+-- what calls were to each of two: nothing but accepted inactive frames and refused ones, so many inactive frames, and those with the same samples
+pub record QuietAlike (limit : ℕ) (left-events right-events : List Event) : Type 0 where
+  pub left : still left-events ≡ true
+  pub right : still right-events ≡ true
+  pub same : heard left-events ≡ heard right-events
+  pub many : length (heard left-events) ≡ limit
+
 -- Two decoders have accepted the limit's number of inactive frames in a row, with no start and no loss mark, each with refused frames of its own
 -- in between, and the samples of those inactive frames were the same.
-pub record SettleAlike (a b : Decoder) (calls-a calls-b : List Call) : Type 0 where
-  pub left : still (events a calls-a) ≡ true
-  pub right : still (events b calls-b) ≡ true
-  pub same : heard (events a calls-a) ≡ heard (events b calls-b)
-  pub many : length (heard (events a calls-a)) ≡ limitOf a
+abbrev pub SettleAlike : Decoder → Decoder → List Call → List Call → Type 0
+SettleAlike a b calls-a calls-b = QuietAlike (limitOf a) (events a calls-a) (events b calls-b)

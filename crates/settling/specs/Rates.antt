@@ -9,16 +9,17 @@ use Rattle.settling.specs.Calls.{Call, start, frame, loss}
 abbrev pub renamed : ℕ → Decoder → Decoder
 renamed rate d = record {
   registers = record {
-    rate = rate;
-    duration = d .registers .duration;
-    «ltpf_active_prev» = d .registers .«ltpf_active_prev»;
-    «c_num» = d .registers .«c_num»;
-    «c_den» = d .registers .«c_den»;
-    lag = d .registers .lag;
-    run = d .registers .run;
-    settled = d .registers .settled;
+    marks = record {
+      rate = rate;
+      duration = d .registers .marks .duration;
+      run = d .registers .marks .run;
+      «ltpf_active_prev» = d .registers .marks .«ltpf_active_prev»;
+      settled = d .registers .marks .settled;
+      lag = d .registers .marks .lag;
+    };
+    «block_start_index» = d .registers .«block_start_index»;
   };
-  «block_start_index» = d .«block_start_index»;
+  kept = d .kept;
   «x_hat_mem» = d .«x_hat_mem»;
   «x_hat_ltpf_mem» = d .«x_hat_ltpf_mem»;
 }

@@ -1,11 +1,11 @@
 // How many inactive frames settle a decoder, by a run at 8000 Hz. Two decoders differ in the samples
 // of their first active frame. Then both are given equal frames: active ones, some inactive ones, and
 // one more active frame, whose outputs are compared.
-use control::judge::SideInfo;
 use decoder::frame::Framed;
 use decoder::frame::frame;
 use decoder::state::Decoder;
 use decoder::state::start;
+use judging::plan::SideInfo;
 use lag::pitch::PitchRecord;
 use lag::pitch::Present;
 use libc::STDOUT_FILENO;
@@ -100,7 +100,12 @@ fn compare(duration: u32, nf: usize, active: usize, inactive: usize) -> bool
     step(a, true, nf, &mut x);
     step(b, true, nf, &mut y);
     let registers = a.registers;
-    report(duration, inactive, registers.settled, differing(&x, &y))
+    report(
+        duration,
+        inactive,
+        registers.marks.settled,
+        differing(&x, &y),
+    )
 }
 
 fn main() {

@@ -1,5 +1,5 @@
 -- `activated`: the faded outputs, then the unfaded ones.
-use mathlib.Core.Path.{_∙_}
+use Rattle.coefficients.specs.Coefficients.{readOut}
 use Rattle.filter.proofs.Cases.{activated-line}
 use borrow.Author.Needs.{needs}
 use Rattle.filter.proofs.transition.activated.Statement.{statement}
@@ -7,10 +7,10 @@ use Rattle.filter.proofs.transition.activated.Tie as tie
 
 returns : tie.Need-returns
 returns c =
-    let s = c .before .before .before .before .before .before .before .before .before .before in
-    c .before .before .filter-run2 .ensures
-    ∙ rw (c .before .before .before .before .before .before .filter-run .ensures)
-    (activated-line (s .args .fade) (s .args .history) (s .args .x .now) (s .args .y .now) (s .pre .0) _)
+    let s = c .before .before .before .before .before .before .before .before .before .before .before in
+    rw (c .before .before .filter-run2 .ensures, c .before .before .before .before .before .before .filter-run .ensures)
+    (activated-line (s .args .fade) (s .args .history) (s .args .x .now) (s .args .y .now) (s .pre .0)
+    (readOut (s .args .l-den) (s .args .lag) (s .args .new .now)))
 
 pub activated-spec : {M : Type 1} → statement M
 activated-spec =

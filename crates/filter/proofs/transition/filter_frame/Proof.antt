@@ -13,38 +13,38 @@ enum-told-2 c = search needs
 
 activated-requires : tie.Need-activated-requires
 activated-requires c κs =
-    let s = c .before .before .before .before .before in
-    (s .pre .0, rw (c .before .enum-told2 .given .1) at (s .pre .1))
+    let s = c .before .before .before .before .before .before .before in
+    (s .pre .0, s .pre .2, rw (c .before .enum-told2 .given .1) at (s .pre .3))
 
 enum-told-3 : tie.Need-enum-told-3
 enum-told-3 c = search needs
 
 deactivated-requires : tie.Need-deactivated-requires
 deactivated-requires c κs =
-    let s = c .before .before .before .before .before in
-    (s .pre .0, rw (c .before .enum-told3 .given .1) at (s .pre .1))
+    let s = c .before .before .before .before .before .before .before in
+    (s .pre .0, s .pre .1, rw (c .before .enum-told3 .given .1) at (s .pre .3))
 
 enum-told-4 : tie.Need-enum-told-4
 enum-told-4 c = search needs
 
 pitch-kept-requires : tie.Need-pitch-kept-requires
 pitch-kept-requires c κs =
-    let s = c .before .before .before .before .before in
-    (s .pre .0, rw (c .before .enum-told4 .given .1) at (s .pre .1))
+    let s = c .before .before .before .before .before .before .before in
+    (s .pre .0, s .pre .2, rw (c .before .enum-told4 .given .1) at (s .pre .3))
 
 enum-told-5 : tie.Need-enum-told-5
 enum-told-5 c = search needs
 
 pitch-changed-requires : tie.Need-pitch-changed-requires
 pitch-changed-requires c κs =
-    let s = c .before .before .before .before .before in
-    let i = (rw (c .before .enum-told5 .given .1) at (s .pre .1)) in
-    (s .pre .0, i .0, i .1)
+    let s = c .before .before .before .before .before .before .before in
+    let i = (rw (c .before .enum-told5 .given .1) at (s .pre .3)) in
+    (s .pre .0, s .pre .1, i .0, s .pre .2, i .1)
 
 returns : tie.Need-returns
 unfolding outputs
 returns c =
-    let s = c .before .before .before .before in
+    let s = c .before .before .before .before .before .before in
     rw (c .enum-told .given .1) (inactive-line (s .args .fade) (s .args .history) (s .args .x .now) (s .args .y .now) (s .pre .0))
 
 same-length : tie.Need-same-length

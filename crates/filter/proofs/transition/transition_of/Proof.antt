@@ -7,21 +7,23 @@ use Rattle.filter.proofs.transition.transition_of.Tie as tie
 returns : tie.Need-returns
 unfolding transitionOf
 returns c =
+    let a = c .before .before .before .before .before .before .before .before .args in
     rw (
       c .before .before .before .before .before .before .before .if1 .taken,
       c .before .before .before .before .before .before .if2 .taken,
-      eq-eqb _ _ (c .before .before .before .if3 .taken),
-      eq-eqb _ _ (c .if4 .taken),
+      eq-eqb (a .lag-prev .whole) (a .lag .whole) (c .before .before .before .if3 .taken),
+      eq-eqb (a .lag-prev .quarter) (a .lag .quarter) (c .if4 .taken),
     )
 
 returns-2 : tie.Need-returns-2
 unfolding transitionOf
 returns-2 c =
+    let a = c .before .before .before .before .before .before .before .before .args in
     rw (
       c .before .before .before .before .before .before .before .if1 .taken,
       c .before .before .before .before .before .before .if2 .taken,
-      eq-eqb _ _ (c .before .before .before .if3 .taken),
-      ne-eqb _ _ (c .if4 .left),
+      eq-eqb (a .lag-prev .whole) (a .lag .whole) (c .before .before .before .if3 .taken),
+      ne-eqb (a .lag-prev .quarter) (a .lag .quarter) (c .if4 .left),
     )
 
 returns-3 : tie.Need-returns-3

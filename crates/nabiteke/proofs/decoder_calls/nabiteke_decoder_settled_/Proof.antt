@@ -1,6 +1,6 @@
 -- `nabiteke_decoder_settled_` reads one flag.
 use borrow.Author.Needs.{needs}
-use Rattle.c_arrays.specs.Registers.{registersFrom}
+use Rattle.c_arrays.specs.Registers.{readRegisters}
 use Rattle.nabiteke.specs.DecoderCalls.{settledCall}
 use Rattle.nabiteke.proofs.decoder_calls.nabiteke_decoder_settled_.Statement.{statement}
 use Rattle.nabiteke.proofs.decoder_calls.nabiteke_decoder_settled_.Tie as tie
@@ -15,7 +15,7 @@ as-flag-requires : tie.Need-as-flag-requires
 as-flag-requires c κs = search needs
 
 returns : tie.Need-returns
-unfolding settledCall registersFrom
+unfolding settledCall readRegisters
 returns c = λ kept inputs outputs. rw (c .as-flag .ensures, c .before .is-yes .ensures)
 
 pub nabiteke-decoder-settled--spec : {M : Type 1} → statement M

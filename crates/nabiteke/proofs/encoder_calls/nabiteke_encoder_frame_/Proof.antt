@@ -1,33 +1,10 @@
 -- `nabiteke_encoder_frame_` writes the record, and the next state where the frame is done.
-use Rattle.c_arrays.specs.EncoderState.{arrays}
+use Rattle.c_encoder.specs.State.{arrays}
 use Rattle.nabiteke.specs.EncoderCalls.{given}
-use Rattle.nabiteke.proofs.EncoderCalls.{frame-fits, frame-left}
+use Rattle.nabiteke.proofs.EncoderCalls.{frame-left}
 use borrow.Author.Needs.{needs}
 use Rattle.nabiteke.proofs.encoder_calls.nabiteke_encoder_frame_.Statement.{statement}
 use Rattle.nabiteke.proofs.encoder_calls.nabiteke_encoder_frame_.Tie as tie
-
-read-encoder-requires : tie.Need-read-encoder-requires
-read-encoder-requires c κs = search needs
-
-is-yes-requires : tie.Need-is-yes-requires
-is-yes-requires c κs = search needs
-
-frame-requires : tie.Need-frame-requires
-frame-requires c κs = search needs
-
-write-record-requires : tie.Need-write-record-requires
-write-record-requires c κs = search needs
-
-write-floats-if-done-requires : tie.Need-write-floats-if-done-requires
-write-floats-if-done-requires c κs = search needs
-
-write-numbers-if-done-requires : tie.Need-write-numbers-if-done-requires
-write-numbers-if-done-requires c κs =
-    let f = c .before .before .before .before .before .before .before .before in
-    let e = f .before .before in
-    let a = e .before .before .before .before .before .before .before .before .before .args in
-    frame-fits (arrays (a .numbers .now) (a .memories .now) (a .x-s .now) (a .x-12p8 .now) (a .x-6p4 .now)) (given (a .resampling .now) (a .correlation .now) (a .signal .now) (a .samples .now) (a .nbits) (a .near-nyquist))
-    _ _ _ (e .read-encoder .ensures) (f .before .is-yes .ensures) (f .frame .ensures)
 
 returns : tie.Need-returns
 returns c =
@@ -44,10 +21,10 @@ pub nabiteke-encoder-frame--spec : {M : Type 1} → statement M
 nabiteke-encoder-frame--spec =
     tie.close
     (tie.spec
-    read-encoder-requires
-    is-yes-requires
-    frame-requires
-    write-record-requires
-    write-floats-if-done-requires
-    write-numbers-if-done-requires
+    (λ c κs. search needs)
+    (λ c κs. search needs)
+    (λ c κs. search needs)
+    (λ c κs. search needs)
+    (λ c κs. search needs)
+    (λ c κs. search needs)
     returns)

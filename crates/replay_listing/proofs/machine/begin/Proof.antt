@@ -1,4 +1,4 @@
--- `begin` starts with the registers of a start, and holds nothing.
+-- `begin` starts with the marks of a start, and holds nothing.
 use borrow.Author.Needs.{needs}
 use Rattle.replay_listing.proofs.machine.begin.Statement.{statement}
 use Rattle.replay_listing.proofs.machine.begin.Tie as tie

@@ -9,7 +9,7 @@ use Rattle.lines.proofs.HeldLines.{capped}
 use Rattle.lines.specs.Listings.{nextNumber}
 use Rattle.replaying.specs.Steps.{stepped}
 use Rattle.replaying.specs.declared.step.Stepped.{Stepped}
-use Rattle.replay_listing.specs.Bare.{replayedLine}
+use Rattle.replay_listing.specs.ByMarks.{replayedLine}
 use Rattle.replay_listing.specs.declared.machine.Replay.{Replay}
 use Rattle.replay_listing.specs.declared.machine.Replayed.{Replayed}
 use borrow.Author.Needs.{needs}
@@ -18,13 +18,13 @@ use Rattle.replay_listing.proofs.machine.replay_held.Tie as tie
 
 -- what the code puts together
 abbrev made : ℕ → Stepped → Replayed
-made n s = record { replay = record { line = n; last = s .last; registers = s .registers }; row = s .row }
+made n s = record { replay = record { line = n; last = s .last; marks = s .marks }; row = s .row }
 
 -- it is what the definition says of a line, where the bytes that were `given` are the whole line
 replayed-as : (p : Replay) (n : ℕ) (s : Stepped) (given line : List ℕ) → given ≡ line → n ≡ nextNumber (p .line) →
-    s ≡ stepped (p .last) (p .registers) given → made n s ≡ replayedLine p line
+    s ≡ stepped (p .last) (p .marks) given → made n s ≡ replayedLine p line
 unfolding replayedLine
-replayed-as p n s given line w m e = ap₂ made m (e ∙ ap (stepped (p .last) (p .registers)) w)
+replayed-as p n s given line w m e = ap₂ made m (e ∙ ap (stepped (p .last) (p .marks)) w)
 
 size : (c : tie.After-bytes) → length (c .before .before .before .args .held .bytes) ≡ 32
 size c = search needs

@@ -1,15 +1,15 @@
 -- `lose` goes by fitness.
-use Rattle.replaying.specs.Frames.{lostBare}
+use Rattle.replaying.specs.Frames.{lostMarks}
 use borrow.Author.Needs.{needs}
 use Rattle.replaying.proofs.frame.lose.Statement.{statement}
 use Rattle.replaying.proofs.frame.lose.Tie as tie
 
 returns : tie.Need-returns
-unfolding lostBare
+unfolding lostMarks
 returns c = rw (c .dashed-row .ensures, c .before .unsettle .ensures, ← c .before .before .before .before .fit-config .ensures, c .before .before .enum-told .given .1)
 
 returns-2 : tie.Need-returns-2
-unfolding lostBare
+unfolding lostMarks
 returns-2 c = rw (c .dashed-row2 .ensures, ← c .before .before .before .before .fit-config .ensures, c .before .before .answer .given .1)
 
 pub lose-spec : {M : Type 1} → statement M

@@ -11,8 +11,7 @@ returns-2 c =
     rw (
       c .columns-of .ensures,
       c .before .advance .ensures,
-      c .before .before .bare-filter .ensures,
-      c .before .before .before .before .verdict2 .given .1,
+      c .before .before .before .before .before .verdict2 .given .1,
     )
 
 pub play-spec : {M : Type 1} → statement M
@@ -22,7 +21,6 @@ play-spec =
     (λ c. search needs)
     (λ c κs. search needs)
     (λ c. search needs)
-    (λ c κs. search needs)
     (λ c κs. search needs)
     (λ c κs. search needs)
     returns

@@ -7,7 +7,7 @@ returns : tie.Need-returns
 returns c = rw (c .lose .ensures, c .before .enum-told .given .1)
 
 returns-2 : tie.Need-returns-2
-returns-2 c = rw (c .play .ensures, c .before .judge-bare .ensures, c .before .before .before .content .given .1)
+returns-2 c = rw (c .play .ensures, c .before .judge-marks .ensures, c .before .before .before .content .given .1)
 
 pub replay-content-spec : {M : Type 1} → statement M
 replay-content-spec =

@@ -10,13 +10,13 @@ use Rattle.lines.specs.Machine.{full}
 use Rattle.lines.specs.declared.held.Taken.{Taken}
 use Rattle.lines.proofs.Cuts.{short, roomy}
 use Rattle.lines.proofs.Feeding.{Going, going-first, going-held, going-row, going-full, going-done}
-use Rattle.replay_listing.specs.Bare.{bareRules}
+use Rattle.replay_listing.specs.ByMarks.{marksRules}
 use borrow.Author.Needs.{needs}
 use Rattle.replay_listing.proofs.machine.Listing.feed.Statement.{statement}
 use Rattle.replay_listing.proofs.machine.Listing.feed.Tie as tie
 
 abbrev Inv-loop : tie.InvT-loop
-Inv-loop input out₀ replay₀ held₀ at₀ used₀ out replay held at used = Going bareRules input out₀ replay₀ held₀ out replay held at used
+Inv-loop input out₀ replay₀ held₀ at₀ used₀ out replay held at used = Going marksRules input out₀ replay₀ held₀ out replay held at used
 
 abbrev μ-loop : tie.MeasureT-loop
 μ-loop input out₀ replay₀ held₀ at₀ used₀ out replay held at used = length input - used
@@ -25,8 +25,8 @@ abbrev μ-loop : tie.MeasureT-loop
 space : (c : tie.Then1 Inv-loop μ-loop) → 169 ≤ length (c .before .before .loop .out) - c .before .before .loop .at
 space c = leb-true _ _ (c .if1 .taken)
 
-free : (c : tie.Then1 Inv-loop μ-loop) → full bareRules (c .before .before .loop .replay) (length (c .before .before .loop .out) - c .before .before .loop .at) ≡ false
-free c = roomy bareRules (c .before .before .loop .replay) _ (space c)
+free : (c : tie.Then1 Inv-loop μ-loop) → full marksRules (c .before .before .loop .replay) (length (c .before .before .loop .out) - c .before .before .loop .at) ≡ false
+free c = roomy marksRules (c .before .before .loop .replay) _ (space c)
 
 onward : (c : tie.After-take-line Inv-loop μ-loop) → c .before .before .before .loop .used ≤ c .take-line .result .at
 onward c = omega (arith, ap (λ (t : Taken). t .at) (c .take-line .ensures))
@@ -60,7 +60,7 @@ loop-again-2 c =
 returns : tie.Need-returns Inv-loop μ-loop
 returns c =
     let g = c .before .before .loop .inv in
-    (going-full _ _ _ _ _ _ _ _ _ _ g (short bareRules (c .before .before .loop .replay) (length (c .before .before .loop .out) - c .before .before .loop .at) refl (leb-false _ _ (c .if1 .left))), (cc, (g .wrote, (g .within, omega arith))))
+    (going-full _ _ _ _ _ _ _ _ _ _ g (short marksRules (c .before .before .loop .replay) (length (c .before .before .loop .out) - c .before .before .loop .at) refl (leb-false _ _ (c .if1 .left))), (cc, (g .wrote, (g .within, omega arith))))
 
 returns-2 : tie.Need-returns-2 Inv-loop μ-loop
 returns-2 c =

@@ -1,0 +1,2 @@
+-- An encoder in the caller's arrays.
+pub mod State

@@ -1,0 +1,2 @@
+-- The lengths that a caller asks for.
+pub mod Lengths

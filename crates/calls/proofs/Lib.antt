@@ -1,0 +1,3 @@
+-- The laws of calls one after the other.
+pub mod Both
+pub mod Kept

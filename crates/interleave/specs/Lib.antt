@@ -1,0 +1,2 @@
+-- One buffer with the samples of both ears.
+pub mod Turns
