@@ -1,4 +1,4 @@
--- What the proofs share, and that a flag, a number and a pitch read back.
+-- What the proofs share, and that a flag, a pitch and registers read back.
 pub mod Flags
 pub mod Pitches
-pub mod Narrow
+pub mod Numbers

@@ -23,7 +23,7 @@ use Rattle.decoder.specs.declared.frame.FramedInPlace.{FramedInPlace}
 use Rattle.settling.specs.Calls.{Given, framedBy}
 use Rattle.c_arrays.specs.Words.{narrowed, whereDone}
 use Rattle.c_arrays.specs.Registers.{readRegisters, numbersBy, Fits32}
-use Rattle.c_arrays.proofs.Narrow.{written-whole}
+use Rattle.c_arrays.proofs.Numbers.{written-whole}
 use Rattle.nabiteke.specs.DecoderArrays.{DecoderArrays, arrays, readDecoder, writtenDecoder}
 use Rattle.nabiteke.specs.DecoderCalls.{frameCall, handedNumbers, lostCall, startCall}
 use Rattle.nabiteke.proofs.DecoderFrames.{Outcome, refusal, success, outcome}

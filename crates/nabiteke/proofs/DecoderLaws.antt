@@ -20,14 +20,14 @@ use Rattle.settling.specs.Calls.{Given, Call, start, frame, loss, after, afterA
 use Rattle.c_arrays.specs.Words.{asFlag, whereDone}
 use Rattle.c_arrays.specs.Registers.{readRegisters, numbersBy}
 use Rattle.c_arrays.proofs.Flags.{flag-back}
+use Rattle.c_arrays.proofs.Numbers.{registers-back}
 use Rattle.nabiteke.specs.DecoderArrays.{DecoderArrays, arrays, readDecoder, writtenDecoder}
 use Rattle.nabiteke.specs.DecoderCalls.{startCall, frameCall, lostCall, settledCall, handedNumbers, arraysAfter, seen, shown, inArrays, arraysAfterAll, seenAll}
 use Rattle.nabiteke.proofs.DecoderFrames.{Outcome, refusal, success, outcome, unfit-some}
 
 -- a state that was written reads back
 pub read-written : (d : Decoder) → readDecoder (writtenDecoder d) ≡ d
-unfolding readRegisters numbersBy
-read-written d = rw (flag-back (d .registers .marks .«ltpf_active_prev»), flag-back (d .registers .marks .settled))
+read-written d = rw (registers-back (d .registers))
 
 -- the state in the arrays after an outcome, and the settled report
 pub outcome-kept : (a : DecoderArrays) {samples : List Float} {r : Framed × List Float} → Outcome (readDecoder a) samples r →

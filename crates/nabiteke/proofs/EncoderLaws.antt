@@ -1,6 +1,6 @@
--- THE ENCODER FROM C. `calls-kept`: whatever bytes the arrays hold, calls from C, one after the other, leave in them the state that the same calls of
--- the encoder give; `calls-answered`: and C gets what those calls give. `recorded`: which answers and records a frame call gives. `zero-frame`: numbers of zero bytes are answered with 9, and nothing
--- changes.
+-- THE ENCODER FROM C. `calls-kept`, `calls-answered`: whatever bytes the arrays hold, calls from C, one after the other, leave in them the state that
+-- the same calls of the encoder give, and C gets what those calls give. `recorded`: which answers and records a frame call gives.
+-- `zero-frame`: numbers of zero bytes are answered with 9, and nothing changes.
 use Prim.Native.Nat.{ℕ}
 use mathlib.Core.Path.{_≡_, refl, _∙_}
 use mathlib.Core.Bool.{Bool, true, false, cond}
