@@ -1,5 +1,5 @@
-# The published coefficients, from the bits that published_run writes, as Rust text under the given files' names:
-# awk -f tables.awk crates/published_run/stdout
+# The published coefficients, from the bits that test_published writes, as Rust text under the given files' names:
+# awk -f tables.awk crates/test_published/stdout
 function rust_name(table) {
     if (table == "resampling") return "TAB_RESAMP_FILTER"
     if (table == "correlation_interpolation") return "TAB_LTPF_INTERP_R"

@@ -1,5 +1,5 @@
 #!/usr/bin/env python3
-"""The standard's Appendix C, as the vector files that the program appendix_c reads (oracle/FORMAT.md).
+"""The standard's Appendix C, as the vector files that the program test_appendix_c reads (oracle/FORMAT.md).
 
 appendix_c.py DIR > appendix_c.bin           DIR has the published appendix_c_encoder.tsv and appendix_c_decoder.tsv
 appendix_c.py DIR --damage > damaged.bin     a frame and a case of it, with one wrong value in each vector

@@ -1,5 +1,5 @@
 #!/usr/bin/env python3
-"""Writes what the program packing_run must print: every pitch record packed for the recorder and read back,
+"""Writes what the program test_packing must print: every pitch record packed for the recorder and read back,
 and what every byte and every pair of bytes is read as.
 
 An independent packer, written from the recorder's rules with strings of binary digits: one for presence; if

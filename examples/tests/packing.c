@@ -1,6 +1,6 @@
 /*
  * Packs every pitch and reads it back, and reads every byte and every pair of bytes. What it prints is compared with what
- * crate packing_run must print, which another packer made (oracle/packing.py).
+ * crate test_packing must print, which another packer made (oracle/packing.py).
  */
 #include "nabiteke.h"
 #include <stdio.h>

@@ -1,5 +1,5 @@
 /*
- * Writes the bits of nabiteke_published.h as crate published_run writes those of crate published; examples/run compares
+ * Writes the bits of nabiteke_published.h as crate test_published writes those of crate published; examples/run compares
  * the two. The rows are those that the lookup gives, with its counts.
  */
 #include "nabiteke_published.h"

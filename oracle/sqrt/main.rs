@@ -1,7 +1,7 @@
-// What `root_run` must write, by the standard library's `f32::sqrt`, which is IEEE 754's correctly
+// What `test_root` must write, by the standard library's `f32::sqrt`, which is IEEE 754's correctly
 // rounded root. Build and run: rustc -O oracle/sqrt/main.rs -o root_oracle && ./root_oracle spread
 
-// Patterns by the rule that crates/root_run/src/main.rt states.
+// Patterns by the rule that crates/test_root/src/main.rt states.
 fn spread() -> Vec<u32> {
     let mut inputs = vec![
         0.0f32.to_bits(),

@@ -20,7 +20,7 @@ use Rattle.decoder.specs.InPlace.{joined, apart, allApart, framedInPlace, lostI
 use Rattle.decoder.specs.declared.state.Started.{Started}
 use Rattle.decoder.specs.declared.frame.Framed.{Framed}
 use Rattle.decoder.specs.declared.frame.FramedInPlace.{FramedInPlace}
-use Rattle.settling.specs.Calls.{Given, framedBy}
+use Rattle.settling_laws.specs.Calls.{Given, framedBy}
 use Rattle.c_arrays.specs.Words.{narrowed, whereDone}
 use Rattle.c_arrays.specs.Registers.{readRegisters, numbersBy, Fits32}
 use Rattle.c_arrays.proofs.Numbers.{written-whole}

@@ -29,7 +29,7 @@ use Rattle.decoder.specs.State.{fitDecoder}
 use Rattle.decoder.specs.Frame.{framedAs, done, accepted, framedWith, framed}
 use Rattle.decoder.specs.declared.state.Decoder.{Decoder}
 use Rattle.decoder.specs.declared.frame.Framed.{Framed}
-use Rattle.settling.specs.Calls.{Given, framedBy}
+use Rattle.settling_laws.specs.Calls.{Given, framedBy}
 use Rattle.c_arrays.specs.Registers.{Fits32}
 
 module _ (d : Decoder) {plan : Plan} {nums dens frame : List Float} (j : Judged (d .registers) nums dens frame plan) where

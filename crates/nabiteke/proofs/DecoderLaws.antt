@@ -6,7 +6,7 @@ use mathlib.Core.List.{List, [], map}
 use borrow.Author.Tests.{ne-eqb}
 use lib.Ieee.{Float}
 use lib.ListN.{replicate}
-use Rattle.calls.proofs.Kept.{all-kept, each-shown}
+use Rattle.call_laws.proofs.Kept.{all-kept, each-shown}
 use Rattle.rates.specs.Answers.{numberOf}
 use Rattle.rates.specs.Table.{find}
 use Rattle.rates.specs.declared.config.Configured.{Configured}
@@ -16,7 +16,7 @@ use Rattle.decoder.specs.State.{started, fitDecoder}
 use Rattle.decoder.specs.Frame.{framed, lostWith, lostFrom}
 use Rattle.decoder.specs.declared.state.Decoder.{Decoder}
 use Rattle.decoder.specs.declared.frame.Framed.{Framed}
-use Rattle.settling.specs.Calls.{Given, Call, start, frame, loss, after, afterAll, replyOf, reply, replies, frames, decoderWith}
+use Rattle.settling_laws.specs.Calls.{Given, Call, start, frame, loss, after, afterAll, replyOf, reply, replies, frames, decoderWith}
 use Rattle.c_arrays.specs.Words.{asFlag, whereDone}
 use Rattle.c_arrays.specs.Registers.{readRegisters, numbersBy}
 use Rattle.c_arrays.proofs.Flags.{flag-back}

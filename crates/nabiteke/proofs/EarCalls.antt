@@ -14,9 +14,9 @@ use Rattle.decoder.specs.declared.state.Decoder.{Decoder}
 use Rattle.ears.specs.InPlace.{bothApart, bothInPlace}
 use Rattle.ears_judging.specs.declared.ear.Ear.{Ear}
 use Rattle.ears.specs.declared.frame.BothFramed.{BothFramed}
-use Rattle.ears_apart.specs.Calls.{Headset, WhichEar, leftEar, rightEar, own, Given, framedBoth, samplesOf, EarGiven, givenTo, earFramedBy}
-use Rattle.ears_apart.proofs.AsOne.{Halved, whole, asOne, refusalOf, refusal-some, whole-framed, other-framed}
-use Rattle.ears_apart.proofs.Interference.{given-halved}
+use Rattle.ears_laws.specs.Calls.{Headset, WhichEar, leftEar, rightEar, own, Given, framedBoth, samplesOf, EarGiven, givenTo, earFramedBy}
+use Rattle.ears_laws.proofs.AsOne.{Halved, whole, asOne, refusalOf, refusal-some, whole-framed, other-framed}
+use Rattle.ears_laws.proofs.Interference.{given-halved}
 use Rattle.c_arrays.specs.Words.{narrowed, whereDone}
 use Rattle.c_arrays.specs.Registers.{numbersBy}
 use Rattle.nabiteke.specs.DecoderArrays.{arrays}

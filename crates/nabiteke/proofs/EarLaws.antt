@@ -2,9 +2,9 @@
 -- arrays of each ear the state that the same calls of the decoders give it, and C sees for each ear what those calls reply to it.
 use mathlib.Core.Path.{_≡_, refl}
 use mathlib.Core.List.{List, map}
-use Rattle.calls.proofs.Kept.{all-kept, some-shown}
-use Rattle.settling.specs.Calls as one
-use Rattle.ears_apart.specs.Calls.{WhichEar, leftEar, rightEar, own, Call, start, loss, frame, withOwn, after, afterAll, ifOwn, replyTo, headset, repliesTo}
+use Rattle.call_laws.proofs.Kept.{all-kept, some-shown}
+use Rattle.settling_laws.specs.Calls as one
+use Rattle.ears_laws.specs.Calls.{WhichEar, leftEar, rightEar, own, Call, start, loss, frame, withOwn, after, afterAll, ifOwn, replyTo, headset, repliesTo}
 use Rattle.nabiteke.specs.DecoderCalls.{arraysAfter, seen, shown}
 use Rattle.nabiteke.specs.EarCalls.{HeadsetArrays, readHeadset, bothCall, arraysOf, withArrays, bothAfter, seenFor, inBoth, bothAfterAll, allSeenFor}
 use Rattle.nabiteke.proofs.EarCalls.{ear-outcome}

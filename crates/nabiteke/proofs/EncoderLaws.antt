@@ -8,7 +8,7 @@ use mathlib.Core.List.{List, [], _∷_, map-id}
 use borrow.Author.Tests.{ne-eqb}
 use lib.Ieee.{Float}
 use lib.ListN.{replicate}
-use Rattle.calls.proofs.Kept.{all-kept, each-shown}
+use Rattle.call_laws.proofs.Kept.{all-kept, each-shown}
 use Rattle.rates.specs.Answers.{numberOf}
 use Rattle.rates.specs.Table.{find}
 use Rattle.rates.specs.declared.config.Lc3Config.{Lc3Config}

@@ -2,13 +2,13 @@
 use Prim.Native.Nat.{ℕ}
 use mathlib.Core.List.{List, []}
 use lib.Ieee.{Float}
-use Rattle.calls.specs.Engine as engine
-use Rattle.calls.specs.Engine.{Engine}
+use Rattle.call_laws.specs.Engine as engine
+use Rattle.call_laws.specs.Engine.{Engine}
 use Rattle.rates.specs.Answers.{numberOf}
 use Rattle.decoder.specs.State.{started}
 use Rattle.decoder.specs.Frame.{lostFrom}
 use Rattle.decoder.specs.declared.frame.Framed.{Framed}
-use Rattle.settling.specs.Calls.{Given, Call, start, frame, loss, framedBy, Reply}
+use Rattle.settling_laws.specs.Calls.{Given, Call, start, frame, loss, framedBy, Reply}
 use Rattle.c_arrays.specs.Words.{asFlag, whereDone}
 use Rattle.c_arrays.specs.Pitch.{sideFrom}
 use Rattle.c_arrays.specs.Registers.{numbersOf}

@@ -3,13 +3,13 @@ use Prim.Native.Nat.{ℕ, _+_}
 use mathlib.Core.List.{List, [], _∷_}
 use lib.Ieee.{Float}
 use lib.ListN.{getD}
-use Rattle.calls.specs.Engine as engine
-use Rattle.calls.specs.Engine.{Engine}
+use Rattle.call_laws.specs.Engine as engine
+use Rattle.call_laws.specs.Engine.{Engine}
 use Rattle.rates.specs.Answers.{numberOf}
 use Rattle.lag.specs.declared.pitch.PitchRecord.{PitchRecord}
 use Rattle.decoder.specs.declared.frame.Framed.{Framed}
-use Rattle.settling.specs.Calls as one
-use Rattle.ears_apart.specs.Calls.{Headset, WhichEar, leftEar, rightEar, Given, Call, start, loss, frame, framedBoth, samplesOf, ifOwn}
+use Rattle.settling_laws.specs.Calls as one
+use Rattle.ears_laws.specs.Calls.{Headset, WhichEar, leftEar, rightEar, Given, Call, start, loss, frame, framedBoth, samplesOf, ifOwn}
 use Rattle.ears_judging.specs.declared.ear.Ear.{Ear}
 use Rattle.c_arrays.specs.Words.{whereDone}
 use Rattle.c_arrays.specs.Registers.{readRegisters}

@@ -5,8 +5,8 @@ use mathlib.Core.Bool.{Bool}
 use mathlib.Core.List.{List, [], _∷_}
 use lib.IntN.{ℤ}
 use lib.Ieee.{Float}
-use Rattle.calls.specs.Engine as engine
-use Rattle.calls.specs.Engine.{Engine}
+use Rattle.call_laws.specs.Engine as engine
+use Rattle.call_laws.specs.Engine.{Engine}
 use Rattle.rates.specs.Answers.{numberOf}
 use Rattle.encoder.specs.State.{started}
 use Rattle.encoder.specs.Frame.{framed}
