@@ -2,7 +2,6 @@
 pub mod EachLane
 pub mod EightInside
 pub mod Times
-pub mod Negated
 pub mod ThreeSums
 pub mod InPairs
 pub mod Sums

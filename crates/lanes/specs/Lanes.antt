@@ -1,10 +1,10 @@
 -- Eight sums side by side: sum j of a step takes the sample j places after the first sum's.
 use Prim.Native.Nat.{ℕ, zero, suc, _+_, _-_}
 use mathlib.Core.Bool.{Bool, cond, _&&_}
-use mathlib.Core.List.{List, [], _∷_, map}
+use mathlib.Core.List.{List, [], _∷_}
 use mathlib.Core.Path.{_≡_}
 use lib.Dec.{leb}
-use lib.Ieee.{Float, neg}
+use lib.Ieee.{Float}
 use lib.ListN.{length}
 use Rattle.floats.specs.Single.{_⊕_, _⊖_, _⊗_, 0·0, at}
 use Rattle.lanes.specs.declared.Lanes.{Lanes}
@@ -63,10 +63,6 @@ firAdded s c x i = cond (firInside c x i) (steps (λ t k. plus t (at c k) x (i -
 unfoldable pub firTaken : Lanes → List Float → List Float → ℕ → Lanes
 unfolding steps
 firTaken s c x i = cond (firInside c x i) (steps (λ t k. minus t (at c k) x (i - k)) s (length c)) s
-
--- a row with the sign of each entry turned
-abbrev pub negated : List Float → List Float
-negated c = map neg c
 
 -- x holds all samples that eight sums of the length of a read from i on
 abbrev pub holds : List Float → List Float → ℕ → Bool
