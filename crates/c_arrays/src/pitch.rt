@@ -21,7 +21,7 @@ pub fn pitch_from(present: u32, index: u32, active: u32) -> PitchRecord
 }
 
 // The same, with the frame's bits.
-pub fn read_side(present: u32, index: u32, active: u32, nbits: u32) -> SideInfo
+pub fn side_from(present: u32, index: u32, active: u32, nbits: u32) -> SideInfo
     ensures { λ r. ⌜ r ≡ sideFrom present index active nbits ⌝ }
 {
     let pitch = pitch_from(present, index, active);

@@ -1,5 +1,5 @@
 // The decoder's functions for C.
-use c_arrays::pitch::read_side;
+use c_arrays::pitch::side_from;
 use c_arrays::registers::read_registers;
 use c_arrays::registers::write_numbers;
 use c_arrays::registers::write_numbers_if_done;
@@ -59,7 +59,7 @@ pub extern "C" fn nabiteke_decoder_frame_(
     ensures { λ r. ⌜ (r, arrays (now (numbers .exit)) (now (kept .exit)) (now (inputs .exit)) (now (outputs .exit)), now (samples .exit)) ≡ frameCall (arrays (now (numbers .entry)) (now (kept .entry)) (now (inputs .entry)) (now (outputs .entry))) (given (now (numerators .entry)) (now (denominators .entry)) «pitch_present» «pitch_index» «pitch_active» nbits (now (samples .entry))) ⌝ }
 {
     let registers = read_registers(numbers);
-    let side = read_side(pitch_present, pitch_index, pitch_active, nbits);
+    let side = side_from(pitch_present, pitch_index, pitch_active, nbits);
     let framed = frame_in_place(
         registers,
         kept,

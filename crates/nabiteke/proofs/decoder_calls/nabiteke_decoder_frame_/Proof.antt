@@ -13,7 +13,7 @@ returns c =
     let a = s .before .before .before .before .before .before .args in
     frame-left (arrays (a .numbers .now) (a .kept .now) (a .inputs .now) (a .outputs .now))
     (given (a .numerators .now) (a .denominators .now) (a .pitch-present) (a .pitch-index) (a .pitch-active) (a .nbits) (a .samples .now))
-    _ _ _ _ _ _ _ (s .before .read-registers .ensures .0) (s .read-side .ensures) (f .frame-in-place .ensures) _ _
+    _ _ _ _ _ _ _ (s .before .read-registers .ensures .0) (s .side-from .ensures) (f .frame-in-place .ensures) _ _
     (c .write-numbers-if-done .ensures .0) (c .write-numbers-if-done .ensures .1)
 
 pub nabiteke-decoder-frame--spec : {M : Type 1} → statement M
