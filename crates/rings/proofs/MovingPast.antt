@@ -1,19 +1,18 @@
--- The ring's laws: straightening gives the past, its newest samples lie together, and storing a frame moves the past along by that frame.
+-- The ring's laws: straightening gives the past, its newest samples stand before the frame or end the history, and storing a frame moves the past along by that frame.
 use Prim.Native.Nat.{ℕ, _+_, _-_, _≤_}
 use mathlib.Core.Path.{_≡_, refl, _∙_, ap}
 use mathlib.Core.Bool.{Bool, true, false, cond}
 use mathlib.Core.List.{List, _++_, append-assoc, append-nil}
 use native.Mathlib.Nat.{sub-zero}
 use native.Mathlib.Omega.{arith}
-use borrow.Author.Tests.{eqb-true}
+use borrow.Author.Tests.{eqb-true, ne-eqb}
 use lib.Dec.{eqb}
 use lib.ListN.{length, take, drop, length-take, length-drop}
-use lib.Seq.{drop-drop, drop-append-le, drop-append-add, length-take-le}
+use lib.Seq.{take-add, drop-drop, drop-append-le, drop-append-add, length-take-le}
 use lib.Ieee.{Float}
 use Rattle.slices.specs.Slices.{stored, placed}
 use Rattle.rings.specs.Ring.{straight, nextBlock, newestEnd}
 use Rattle.slices.proofs.Stored.{placed-stored, length-placed, before-stored, take-stored, drop-stored, length-stored, stored-last, drop-take}
-use Rattle.rings.proofs.StraightLines.{length-straight}
 
 -- the line that `straighten` fills, part by part, from the ring and the frame
 pub straightened : (line line₁ line₂ line₃ ring frame : List Float) (history start : ℕ) →
@@ -42,53 +41,72 @@ straightened line line₁ line₂ line₃ ring frame history start s r h e₁ e�
       take-stored line older 0 (history - start) (omega arith) (omega arith),
     )
 
--- the newest block ends inside the history
-pub newest-inside : (history start : ℕ) → start ≤ history → newestEnd history start ≤ history
-newest-inside history start h = go (eqb start 0)
-  where
-    go : (b : Bool) → cond b history start ≤ history
-    go true = omega arith
-    go false = h
+-- the last 16 of the first samples
+last-16 : (ring : List Float) (end k : ℕ) → k + 16 ≡ end → end ≤ length ring → drop k (take end ring) ≡ take 16 (drop k ring)
+last-16 ring end k e l = rw (← e) (drop-take k 16 ring (omega arith))
 
--- the newest samples of the past lie together
-newest-past : (ring : List Float) (history start : ℕ) → start ≤ history → history ≤ length ring → 16 ≤ newestEnd history start →
-    drop (history - 16) (straight ring history start) ≡ take 16 (drop (newestEnd history start - 16) ring)
+-- of a frame at the ring's front the newest past ends the used history
+newest-at-end : (ring frame : List Float) (history : ℕ) → 16 ≤ history → history ≤ length ring →
+    drop (history - 16) (straight ring history 0 ++ frame) ≡ take 16 (drop (history - 16) ring) ++ frame
 unfolding straight
-newest-past ring history start s h n = go (eqb start 0) refl n
-  where
-    last : (end k : ℕ) → k + 16 ≡ end → end ≤ history → drop k (take end ring) ≡ take 16 (drop k ring)
-    last end k e l = rw (← e) (drop-take k 16 ring (omega arith))
-
-    go : (b : Bool) → eqb start 0 ≡ b → 16 ≤ cond b history start →
-        drop (history - 16) (take (history - start) (drop start ring) ++ take start ring) ≡ take 16 (drop (cond b history start - 16) ring)
-    go true p l = let z : start ≡ 0 = eqb-true start 0 p in rw (z, sub-zero, append-nil) (last history (history - 16) (omega arith) (omega arith))
-    go false p l =
-        let older = take (history - start) (drop start ring) in
-        let e : history - 16 ≡ length older + (start - 16) = omega (arith, length-take-le (history - start) (drop start ring) (simp length-drop (omega arith))) in
-        rw e (drop-append-add older (take start ring) (start - 16)) ∙ last start (start - 16) (omega arith) s
+newest-at-end ring frame history n h =
+    rw (
+      sub-zero,
+      append-nil,
+      drop-append-le (history - 16) (take history ring) frame (omega (arith, length-take-le history ring h)),
+      last-16 ring history (history - 16) (omega arith) h,
+    )
 
 -- the line that `recent` fills
-pub recently : (line line₁ line₂ ring frame : List Float) (history start : ℕ) →
-    start ≤ history → history ≤ length ring → 16 ≤ newestEnd history start → length line ≡ 16 + length frame →
-    line₁ ≡ placed line 0 (take 16 (drop (newestEnd history start - 16) ring)) →
-    line₂ ≡ placed line₁ 16 frame →
-    line₂ ≡ drop (history - 16) (straight ring history start ++ frame)
-recently line line₁ line₂ ring frame history start s r n h e₁ e₂ =
-    let end = newestEnd history start in
-    let block = take 16 (drop (end - 16) ring) in
-    let inside : end ≤ history = newest-inside history start s in
-    let long : length block ≡ 16 = length-take-le 16 (drop (end - 16) ring) (simp length-drop (omega arith)) in
+pub recently : (line line₁ line₂ ring : List Float) (history nf : ℕ) →
+    16 ≤ history → history ≤ length ring → nf ≤ length ring → 16 + nf ≤ length line →
+    line₁ ≡ placed line 0 (take 16 (drop (history - 16) ring)) →
+    line₂ ≡ placed line₁ 16 (take nf ring) →
+    take (16 + nf) line₂ ≡ drop (history - 16) (straight ring history 0 ++ take nf ring)
+recently line line₁ line₂ ring history nf n r f h e₁ e₂ =
+    let block = take 16 (drop (history - 16) ring) in
+    let frame = take nf ring in
+    let long : length block ≡ 16 = length-take-le 16 (drop (history - 16) ring) (simp length-drop (omega arith)) in
+    let whole : length frame ≡ nf = length-take-le nf ring f in
     let long₁ : length line₁ ≡ length line = ap length e₁ ∙ length-placed line block 0 in
     rw (
       e₂,
       placed-stored line₁ frame 16 (omega arith),
-      stored-last line₁ frame 16 (omega arith),
+      take-stored line₁ frame 16 (16 + nf) (omega arith) (omega arith),
       e₁,
       placed-stored line block 0 (omega arith),
       take-stored line block 0 16 (omega arith) (omega arith),
-      drop-append-le (history - 16) (straight ring history start) frame (omega (arith, length-straight ring history start s r)),
-      newest-past ring history start s r n,
+      newest-at-end ring frame history n r,
     )
+
+-- elsewhere the newest past stands before the frame
+pub line-in-ring : (ring : List Float) (history nf start : ℕ) → 16 ≤ start → start + nf ≤ history → history ≤ length ring →
+    take (start + nf - (start - 16)) (drop (start - 16) ring) ≡ drop (history - 16) (straight ring history start ++ take nf (drop start ring))
+unfolding straight
+line-in-ring ring history nf start n s h =
+    let older = take (history - start) (drop start ring) in
+    let newer = take start ring in
+    let frame = take nf (drop start ring) in
+    let long : length older ≡ history - start = length-take-le (history - start) (drop start ring) (simp length-drop (omega arith)) in
+    let few : length newer ≡ start = length-take-le start ring (omega arith) in
+    let all : start + nf - (start - 16) ≡ 16 + nf = omega arith in
+    let back : start - 16 + 16 ≡ start = omega arith in
+    let e : history - 16 ≡ length older + (start - 16) = omega arith in
+    rw (
+      all,
+      take-add 16 nf (drop (start - 16) ring),
+      drop-drop 16 (start - 16) ring,
+      back,
+      append-assoc older newer frame,
+      e,
+      drop-append-add older (newer ++ frame) (start - 16),
+      drop-append-le (start - 16) newer frame (omega arith),
+      last-16 ring start (start - 16) back (omega arith),
+    )
+
+-- a block start that is not 0 has 16 samples before it
+pub before-start : (history start : ℕ) → 16 ≤ newestEnd history start → (start ≡ 0 → ⊥) → 16 ≤ start
+before-start history start n h = rw (ne-eqb start 0 h) at n
 
 -- what is left of the past after its oldest block: the newer blocks, in two parts of the ring
 left-over : (ring frame : List Float) (history nf start : ℕ) → start + nf ≤ history → history ≤ length ring →

@@ -3,8 +3,8 @@ use slices::put;
 ghost use mathlib.Core.Path.{_≡_};
 ghost use mathlib.Core.List.{_++_};
 ghost use Prim.Native.Nat.{_+_, _-_, _≤_};
-ghost use lib.ListN.{length, drop};
-ghost use Rattle.rings.specs.Ring.{straight, newestEnd};
+ghost use lib.ListN.{length, take, drop};
+ghost use Rattle.rings.specs.Ring.{straight};
 
 // The past, oldest sample first, with a frame after it.
 pub(crate) fn straighten(
@@ -26,29 +26,12 @@ pub(crate) fn straighten(
     put(line, history, frame);
 }
 
-// Where the newest block ends: before the next block, or at the end of the used history.
-fn newest_end(history: usize, block_start_index: usize) -> usize
-    ensures { λ r. ⌜ r ≡ newestEnd history «block_start_index» ⌝ }
+// The line of inputs of a frame at the ring's front: its past, x[-16..-1], ends the used history, and the frame,
+// x[0..nf-1], begins the ring.
+pub(crate) fn recent(ring: &[f32], history: usize, nf: usize, line: &mut [f32])
+    requires { ⌜ (16 ≤ history) × (history ≤ length (now ring)) × (nf ≤ length (now ring)) × (16 + nf ≤ length (now line)) ⌝ }
+    ensures { λ _. ⌜ take (16 + nf) (now (line .exit)) ≡ drop (history - 16) (straight (now (ring .entry)) history 0 ++ take nf (now (ring .entry))) ⌝ }
 {
-    if block_start_index == 0 {
-        history
-    } else {
-        block_start_index
-    }
-}
-
-// The last 16 samples of the past, with a frame after them.
-pub(crate) fn recent(
-    ring: &[f32],
-    history: usize,
-    block_start_index: usize,
-    frame: &[f32],
-    line: &mut [f32],
-)
-    requires { ⌜ («block_start_index» ≤ history) × (history ≤ length (now ring)) × (16 ≤ newestEnd history «block_start_index») × (length (now line) ≡ 16 + length (now frame)) ⌝ }
-    ensures { λ _. ⌜ now (line .exit) ≡ drop (history - 16) (straight (now (ring .entry)) history «block_start_index» ++ now (frame .entry)) ⌝ }
-{
-    let end = newest_end(history, block_start_index);
-    put(line, 0, &ring[end - 16..end]);
-    put(line, 16, frame);
+    put(line, 0, &ring[history - 16..history]);
+    put(line, 16, &ring[..nf]);
 }
