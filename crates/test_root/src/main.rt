@@ -1,6 +1,6 @@
 // Roots of many floats, written as bit patterns to be compared with another implementation's.
-// `root_run spread` takes 104,693 inputs from all exponents, `root_run whole` all 2 * 8,388,608
-// significands of the exponents 0 and 1, and `root_run every` all 4,294,967,296 patterns.
+// `test_root spread` takes 104,693 inputs from all exponents, `test_root whole` all 2 * 8,388,608
+// significands of the exponents 0 and 1, and `test_root every` all 4,294,967,296 patterns.
 use floats::bits::bits_of;
 use floats::bits::float_of;
 use libc::STDERR_FILENO;

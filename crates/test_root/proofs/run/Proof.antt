@@ -1,4 +1,4 @@
--- `root_run::run` is safe and ends. The measure is how many inputs are left. Assumes nothing.
+-- `test_root::run` is safe and ends. The measure is how many inputs are left. Assumes nothing.
 use Prim.Native.Nat.{_≤_, _<_, _-_}
 use borrow.Author.Needs.{needs}
 use Rattle.test_root.proofs.run.Statement.{statement}

@@ -1,4 +1,4 @@
--- `root_run::square_input` is safe: the square of a number of 12 digits fits. Assumes nothing.
+-- `test_root::square_input` is safe: the square of a number of 12 digits fits. Assumes nothing.
 use Prim.Native.Nat.{ℕ, _+_, _*_, _%_, _≤_}
 use native.Mathlib.Nat.{mul-le-mul, lt-of-le-of-lt}
 use native.Mathlib.Omega.{arith}
