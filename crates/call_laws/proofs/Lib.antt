@@ -1,3 +1,4 @@
 -- The laws of calls one after the other.
 pub mod Both
 pub mod Kept
+pub mod Renamed

@@ -1,5 +1,6 @@
 -- An engine keeps a state from call to call: a decoder, one ear, both ears, the arrays that C holds. Calls one after the other are said here once.
 -- Lists of calls, and of what is said of them, have the latest first.
+use mathlib.Core.Bool.{Bool, true, false, cond}
 use mathlib.Core.List.{List, [], _∷_, _++_}
 
 -- the state after a call, and what the call replies
@@ -26,3 +27,8 @@ module _ {State Call Reply : Type 0} (e : Engine State Call Reply) where
   -- the replies
   abbrev pub replies : State → List Call → List Reply
   replies s calls = each (e .reply) s calls
+
+  -- whether each of the calls is such a one
+  abbrev pub allOf : (Call → Bool) → List Call → Bool
+  allOf is [] = true
+  allOf is (c ∷ earlier) = cond (is c) (allOf is earlier) false

@@ -20,7 +20,8 @@ use Rattle.c_arrays.specs.Words.{narrowed, whereDone}
 use Rattle.c_arrays.specs.Pitch.{recordOf}
 use Rattle.c_encoder.specs.State.{EncoderArrays, arrays, readEncoder, Floats, floatsOf, numbersBy, numbersOf, writtenEncoder}
 use Rattle.c_encoder.proofs.Narrow.{written-whole}
-use Rattle.nabiteke.specs.EncoderCalls.{Given, framedBy, startCall, frameCall}
+use Rattle.encoder.specs.Calls.{Given, framedWith}
+use Rattle.nabiteke.specs.EncoderCalls.{startCall, frameCall}
 use Rattle.nabiteke.proofs.EncoderFrames.{Outcome, refusal, success, outcome}
 
 -- arrays are given by their numbers and their floats
@@ -57,7 +58,7 @@ start-left rate duration r e word ns m s t u w n k =
 
 module _ (a : EncoderArrays) (f : Given) (e : Encoder) (near : Bool) (r : Framed) (from : e ≡ readEncoder a) (same-near : near ≡ f .near)
     (made : r ≡ framed e (f .resampling) (f .correlation) (f .signal) (f .samples) (f .nbits) near) where
-  made-by : r ≡ framedBy (readEncoder a) f
+  made-by : r ≡ framedWith (readEncoder a) f
   made-by = rw (from, same-near) at made
 
   -- the numbers of a frame that is done are written as they are

@@ -21,7 +21,7 @@ use Rattle.encoder.specs.declared.frame.Framed.{Framed}
 use Rattle.encoder.specs.declared.state.Encoder.{Encoder}
 use Rattle.rates.proofs.Known.{both}
 use Rattle.encoder.proofs.Frames.{stays-fit}
-use Rattle.nabiteke.specs.EncoderCalls.{Given, framedBy}
+use Rattle.encoder.specs.Calls.{Given, framedWith}
 
 -- no refusal has the number 0
 bits-some : (c : Lc3Config) (a : Answer) (bits : Bool) → cond bits (Config c) (Refused TooManyBits) ≡ Refused a → numberOf a ≡ 0 → ⊥
@@ -57,12 +57,12 @@ pub data Outcome (e : Encoder) : Framed → Type 0 where
   refusal : (a : Answer) → (numberOf a ≡ 0 → ⊥) → Outcome e (refusedFrame e a)
   success : (r : Framed) → r .answer ≡ Done → r .encoder .«t_prev» ≤ 114 → Outcome e r
 
-pub outcome : (e : Encoder) (f : Given) → Outcome e (framedBy e f)
+pub outcome : (e : Encoder) (f : Given) → Outcome e (framedWith e f)
 unfolding judged encoded
 outcome e f = go (judged e (f .resampling) (f .correlation) (f .signal) (f .samples) (f .nbits)) refl
   where
-    go : (k : Configured) → judged e (f .resampling) (f .correlation) (f .signal) (f .samples) (f .nbits) ≡ k → Outcome e (framedBy e f)
+    go : (k : Configured) → judged e (f .resampling) (f .correlation) (f .signal) (f .samples) (f .nbits) ≡ k → Outcome e (framedWith e f)
     go (Refused a) h = rw h (refusal a (refused-some (fitConfig e) f a h))
     go (Config c) h =
-        success (framedBy e f) (rw h)
-        (fit-lag (framedBy e f .encoder) c (stays-fit e (f .resampling) (f .correlation) (f .signal) (f .samples) (f .nbits) (f .near) c h))
+        success (framedWith e f) (rw h)
+        (fit-lag (framedWith e f .encoder) c (stays-fit e (f .resampling) (f .correlation) (f .signal) (f .samples) (f .nbits) (f .near) c h))

@@ -2,9 +2,9 @@
 -- the same calls of the encoder give, and C gets what those calls give. `recorded`: which answers and records a frame call gives.
 -- `zero-frame`: numbers of zero bytes are answered with 9, and nothing changes.
 use Prim.Native.Nat.{ℕ}
-use mathlib.Core.Path.{_≡_, refl, _∙_}
+use mathlib.Core.Path.{_≡_, refl}
 use mathlib.Core.Bool.{Bool, true, false, cond}
-use mathlib.Core.List.{List, [], _∷_, map-id}
+use mathlib.Core.List.{List, [], _∷_, map}
 use borrow.Author.Tests.{ne-eqb}
 use lib.Ieee.{Float}
 use lib.ListN.{replicate}
@@ -19,6 +19,7 @@ use Rattle.encoder.specs.State.{started, fitConfig}
 use Rattle.found.specs.Found as Found
 use Rattle.found.specs.Found.{ready, foundIn}
 use Rattle.encoder.specs.Frame.{encoded}
+use Rattle.encoder.specs.Calls.{Given, Call, start, frame, framedWith, after, reply, encoder, afterAll, replies}
 use Rattle.found.specs.declared.activation.Activation.{Activation}
 use Rattle.found.specs.declared.activation.Memory.{Memory}
 use Rattle.search.specs.declared.pitch.Detected.{Detected}
@@ -28,7 +29,7 @@ use Rattle.encoder.proofs.Frames.{Takes, decoder-takes}
 use Rattle.c_arrays.specs.Pitch.{recordOf}
 use Rattle.c_encoder.specs.State.{EncoderArrays, arrays, readEncoder, writtenEncoder}
 use Rattle.c_arrays.proofs.Flags.{flag-back}
-use Rattle.nabiteke.specs.EncoderCalls.{Given, framedBy, startCall, frameCall, handed, Call, start, frame, after, reply, encoder, arraysAfter, answered, inArrays, afterAll, replies, arraysAfterAll, answeredAll, Recorded, refused, absent, present}
+use Rattle.nabiteke.specs.EncoderCalls.{startCall, frameCall, handed, shown, arraysAfter, answered, inArrays, arraysAfterAll, answeredAll, Recorded, refused, absent, present}
 use Rattle.nabiteke.proofs.EncoderFrames.{Outcome, refusal, success, refused-some, outcome}
 
 -- a state that was written reads back
@@ -40,7 +41,7 @@ read-written e = rw (flag-back (e .memory .«mem_ltpf_active»))
 pub call-kept : (a : EncoderArrays) (c : Call) → readEncoder (arraysAfter a c) ≡ after (readEncoder a) c
 unfolding startCall frameCall
 call-kept a (start rate duration) = read-written (started rate duration .encoder)
-call-kept a (frame f) = go (framedBy (readEncoder a) f) (outcome (readEncoder a) f)
+call-kept a (frame f) = go (framedWith (readEncoder a) f) (outcome (readEncoder a) f)
   where
     go : (r : Framed) → Outcome (readEncoder a) r → readEncoder (handed a r .1) ≡ r .encoder
     go r (refusal b h) = rw (ne-eqb (numberOf b) 0 h)
@@ -50,13 +51,13 @@ call-kept a (frame f) = go (framedBy (readEncoder a) f) (outcome (readEncoder a)
 pub calls-kept : (a : EncoderArrays) (calls : List Call) → readEncoder (arraysAfterAll a calls) ≡ afterAll (readEncoder a) calls
 calls-kept = all-kept inArrays encoder readEncoder call-kept
 
-call-answered : (a : EncoderArrays) (c : Call) → answered a c ≡ reply (readEncoder a) c
+call-answered : (a : EncoderArrays) (c : Call) → answered a c ≡ shown (reply (readEncoder a) c)
 unfolding startCall frameCall
 call-answered a (start rate duration) = refl
 call-answered a (frame f) = refl
 
-pub calls-answered : (a : EncoderArrays) (calls : List Call) → answeredAll a calls ≡ replies (readEncoder a) calls
-calls-answered a calls = each-shown inArrays encoder readEncoder call-kept (λ r. r) answered reply call-answered a calls ∙ map-id (replies (readEncoder a) calls)
+pub calls-answered : (a : EncoderArrays) (calls : List Call) → answeredAll a calls ≡ map shown (replies (readEncoder a) calls)
+calls-answered = each-shown inArrays encoder readEncoder call-kept shown answered reply call-answered
 
 -- what is found in a frame, as a record
 found-recorded : (c : Lc3Config) (x : List Float) (d : Detected) (m : Memory) (k s : List Float) (nbits : ℕ) (near : Bool) →

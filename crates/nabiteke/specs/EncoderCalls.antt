@@ -9,22 +9,13 @@ use Rattle.call_laws.specs.Engine as engine
 use Rattle.call_laws.specs.Engine.{Engine}
 use Rattle.rates.specs.Answers.{numberOf}
 use Rattle.encoder.specs.State.{started}
-use Rattle.encoder.specs.Frame.{framed}
+use Rattle.encoder.specs.Calls.{Given, Call, start, frame, framedWith, Reply, toStart, toFrame}
 use Rattle.encoder.specs.declared.frame.Framed.{Framed}
-use Rattle.encoder.specs.declared.state.Encoder.{Encoder}
 use Rattle.c_arrays.specs.Words.{isYes, asFlag, whereDone}
 use Rattle.c_arrays.specs.Pitch.{recordOf}
 use Rattle.c_encoder.specs.State.{EncoderArrays, readEncoder, writtenEncoder}
 
 -- what a frame call is given beside the arrays
-pub record Given : Type 0 where
-  pub resampling : List Float
-  pub correlation : List Float
-  pub signal : List Float
-  pub samples : List ℤ
-  pub nbits : ℕ
-  pub near : Bool
-
 abbrev pub given : List Float → List Float → List Float → List ℤ → ℕ → ℕ → Given
 given resampling correlation signal samples nbits near = record {
   resampling = resampling;
@@ -35,10 +26,6 @@ given resampling correlation signal samples nbits near = record {
   near = isYes near;
 }
 
--- what the encoder makes of it
-abbrev pub framedBy : Encoder → Given → Framed
-framedBy e f = framed e (f .resampling) (f .correlation) (f .signal) (f .samples) (f .nbits) (f .near)
-
 -- a start writes the state that it gives, refused or not
 unfoldable pub startCall : ℕ → ℕ → ℕ × EncoderArrays
 startCall rate duration = (numberOf (started rate duration .answer), writtenEncoder (started rate duration .encoder))
@@ -48,25 +35,14 @@ abbrev pub handed : EncoderArrays → Framed → ℕ × EncoderArrays × List �
 handed a r = (numberOf (r .answer), whereDone (r .answer) (writtenEncoder (r .encoder)) a, recordOf (r .pitch) (r .«nbits_ltpf»))
 
 unfoldable pub frameCall : EncoderArrays → Given → ℕ × EncoderArrays × List ℕ
-frameCall a f = handed a (framedBy (readEncoder a) f)
+frameCall a f = handed a (framedWith (readEncoder a) f)
 
--- Calls one after the other: a start or a frame.
-pub data Call : Type 0 where
-  start : ℕ → ℕ → Call
-  frame : Given → Call
+-- a reply of the encoder, as C gets it: the number of the answer, and a frame's record
+abbrev pub shown : Reply → ℕ × List ℕ
+shown (toStart a) = (numberOf a, [])
+shown (toFrame a pitch bits) = (numberOf a, recordOf pitch bits)
 
--- the encoder's state after a call, and what it gives: the answer, and a frame's record, as C's numbers
-abbrev pub after : Encoder → Call → Encoder
-after e (start rate duration) = started rate duration .encoder
-after e (frame f) = framedBy e f .encoder
-
-abbrev pub reply : Encoder → Call → ℕ × List ℕ
-reply e (start rate duration) = (numberOf (started rate duration .answer), [])
-reply e (frame f) = (numberOf (framedBy e f .answer), recordOf (framedBy e f .pitch) (framedBy e f .«nbits_ltpf»))
-
-abbrev pub encoder : Engine Encoder Call (ℕ × List ℕ)
-encoder = record { after = after; reply = reply }
-
+-- Calls one after the other.
 -- the arrays after a call, and the numbers that C gets
 abbrev pub arraysAfter : EncoderArrays → Call → EncoderArrays
 arraysAfter a (start rate duration) = startCall rate duration .1
@@ -80,12 +56,6 @@ abbrev pub inArrays : Engine EncoderArrays Call (ℕ × List ℕ)
 inArrays = record { after = arraysAfter; reply = answered }
 
 -- after all of the calls, and what each of them gave
-abbrev pub afterAll : Encoder → List Call → Encoder
-afterAll = engine.afterAll encoder
-
-abbrev pub replies : Encoder → List Call → List (ℕ × List ℕ)
-replies = engine.replies encoder
-
 abbrev pub arraysAfterAll : EncoderArrays → List Call → EncoderArrays
 arraysAfterAll = engine.afterAll inArrays
 

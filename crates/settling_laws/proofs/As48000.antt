@@ -4,8 +4,9 @@
 use Prim.Native.Nat.{ℕ}
 use mathlib.Core.Path.{_≡_, refl, sym, ap, _∙_, subst}
 use mathlib.Core.Bool.{true, true≢false}
-use mathlib.Core.List.{List, [], _∷_}
+use mathlib.Core.List.{List, []}
 use lib.Ieee.{Float}
+use Rattle.call_laws.proofs.Renamed.{Alike, all-renamed}
 use Rattle.rates.specs.Table.{find, rowOf}
 use Rattle.rates.specs.Durations.{durationOf}
 use Rattle.rates.specs.Configs.{configured}
@@ -21,8 +22,8 @@ use Rattle.decoder.specs.Frame.{accepted, framedWith, framed, lostWith, lostFro
 use Rattle.decoder.specs.declared.state.Decoder.{Decoder}
 use Rattle.decoder.specs.declared.state.Started.{Started}
 use Rattle.decoder.specs.declared.frame.Framed.{Framed}
-use Rattle.settling_laws.specs.Calls.{Given, Call, start, frame, loss, after, afterAll, fromStart, Reply, replyOf, reply, replies}
-use Rattle.settling_laws.specs.Rates.{renamed, noStart}
+use Rattle.settling_laws.specs.Calls.{Given, Call, start, frame, loss, after, afterAll, fromStart, replyOf, replies, frames, decoderWith}
+use Rattle.settling_laws.specs.Rates.{renamed, isLater, noStart}
 use Rattle.settling_laws.proofs.Renaming.{framed-renamed, lost-renamed}
 
 -- a frame and a loss mark keep the rate
@@ -42,39 +43,26 @@ loss-keeps-rate d = go (fitDecoder d)
     go (Configured.Refused answer) = refl
     go (Configured.Config c) = refl
 
--- any state that is like 48000, and the same state named so
-module _ (d : Decoder) (like : Like48000 (d .registers .marks .rate)) where
-  record Alike (calls : List Call) : Type 0 where
-    rate : Like48000 (afterAll d calls .registers .marks .rate)
-    state : afterAll (renamed 48000 d) calls ≡ renamed 48000 (afterAll d calls)
-    given-back : replies (renamed 48000 d) calls ≡ replies d calls
+-- a state whose rate is like 48000, and the same state named so: a call
+abbrev Like : Decoder → Type 0
+Like d = Like48000 (d .registers .marks .rate)
 
-  -- one call more, after which the renamed state is the state renamed
-  step : (c : Call) (earlier : List Call) → Alike earlier → (let e = afterAll d earlier in
-      (after (renamed 48000 e) c ≡ renamed 48000 (after e c)) → (reply (renamed 48000 e) c ≡ reply e c) →
-      (after e c .registers .marks .rate ≡ e .registers .marks .rate) → Alike (c ∷ earlier))
-  step c earlier before left told kept = record {
-    rate = subst Like48000 (sym kept) (before .rate);
-    state = ap (λ (x : Decoder). after x c) (before .state) ∙ left;
-    given-back =
-        ap (λ (x : Decoder). reply x c ∷ replies (renamed 48000 d) earlier) (before .state) ∙
-        ap (λ (r : Reply). r ∷ replies (renamed 48000 d) earlier) told ∙
-        ap (λ (rs : List Reply). reply (afterAll d earlier) c ∷ rs) (before .given-back);
-  }
-
-  alike : (calls : List Call) → noStart calls ≡ true → Alike calls
-  alike [] q = record { rate = like; state = refl; given-back = refl }
-  alike (start rate duration ∷ earlier) q = absurd (true≢false (sym q))
-  alike (frame f ∷ earlier) q =
-      let before = alike earlier q in
-      let e = afterAll d earlier in
-      let same = framed-renamed 48000 e (before .rate (e .registers .marks .duration)) f in
-      step (frame f) earlier before (ap (λ (r : Framed × List Float). r .0 .decoder) same) (ap replyOf same) (frame-keeps-rate e f)
-  alike (loss ∷ earlier) q =
-      let before = alike earlier q in
-      let e = afterAll d earlier in
-      let same = lost-renamed 48000 e (before .rate (e .registers .marks .duration)) in
-      step loss earlier before (ap (λ (r : Framed). r .decoder) same) (ap (λ (r : Framed). replyOf (r, [])) same) (loss-keeps-rate e)
+one : (d : Decoder) (c : Call) → isLater c ≡ true → Like d → Alike (decoderWith frames) (renamed 48000) Like d c
+one d (start rate duration) q like = absurd (true≢false (sym q))
+one d (frame f) q like =
+    let same = framed-renamed 48000 d (like (d .registers .marks .duration)) f in
+    record {
+      holds = subst Like48000 (sym (frame-keeps-rate d f)) like;
+      state = ap (λ (r : Framed × List Float). r .0 .decoder) same;
+      given-back = ap replyOf same;
+    }
+one d loss q like =
+    let same = lost-renamed 48000 d (like (d .registers .marks .duration)) in
+    record {
+      holds = subst Like48000 (sym (loss-keeps-rate d)) like;
+      state = ap (λ (r : Framed). r .decoder) same;
+      given-back = ap (λ (r : Framed). replyOf (r, [])) same;
+    }
 
 -- both starts; a refused one gives the same state, of 48000 Hz, under either name
 begun : (duration : ℕ) → (started 48000 duration .answer ≡ started 44100 duration .answer) ×
@@ -98,7 +86,7 @@ pub record As48000 (duration : ℕ) (calls : List Call) : Type 0 where
 pub as-48000 : (duration : ℕ) (calls : List Call) → noStart calls ≡ true → As48000 duration calls
 as-48000 duration calls q =
     let b = begun duration in
-    let same = alike (started 44100 duration .decoder) (b .2) calls q in
+    let same = all-renamed (decoderWith frames) (renamed 48000) Like isLater one (started 44100 duration .decoder) (b .2) calls q in
     record {
       answer = b .0;
       given-back = ap (λ (d : Decoder). replies d calls) (b .1) ∙ same .given-back;

@@ -1,9 +1,10 @@
 -- What a decoder at 44100 and one at 48000 are to have in common.
 use Prim.Native.Nat.{ℕ}
 use mathlib.Core.Bool.{Bool, true, false}
-use mathlib.Core.List.{List, [], _∷_}
+use mathlib.Core.List.{List}
+use Rattle.call_laws.specs.Engine.{allOf}
 use Rattle.decoder.specs.declared.state.Decoder.{Decoder}
-use Rattle.settling_laws.specs.Calls.{Call, start, frame, loss}
+use Rattle.settling_laws.specs.Calls.{Call, start, frame, loss, frames, decoderWith}
 
 -- the same state, but for the rate that it names
 abbrev pub renamed : ℕ → Decoder → Decoder
@@ -25,8 +26,10 @@ renamed rate d = record {
 }
 
 -- frames and loss marks alone
+abbrev pub isLater : Call → Bool
+isLater (start rate duration) = false
+isLater (frame f) = true
+isLater loss = true
+
 abbrev pub noStart : List Call → Bool
-noStart [] = true
-noStart (start rate duration ∷ calls) = false
-noStart (frame f ∷ calls) = noStart calls
-noStart (loss ∷ calls) = noStart calls
+noStart = allOf (decoderWith frames) isLater
