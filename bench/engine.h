@@ -46,7 +46,7 @@ struct engine {
 extern const struct engine rust_engine, liblc3_engine, our_engine;
 
 // Our decoder of both ears. Its samples are left and right in turn, its frame takes two sides, left and right; it has
-// no encoder, and its state is not kept.
+// no encoder.
 extern const struct engine our_ears;
 
 #endif

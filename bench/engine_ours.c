@@ -9,7 +9,7 @@ static struct {
     nabiteke_encoder encoder;
 } state, kept;
 
-static nabiteke_decoder left, right;
+static nabiteke_decoder left, right, kept_left, kept_right;
 static nabiteke_rows rows;
 static nabiteke_sets sets;
 static size_t frame;
@@ -98,6 +98,18 @@ static float *ears_frame(const struct side *sides)
     return ears_buffer;
 }
 
+static void keep_ears(void)
+{
+    kept_left = left;
+    kept_right = right;
+}
+
+static void put_ears_back(void)
+{
+    left = kept_left;
+    right = kept_right;
+}
+
 const struct engine our_ears = {
-    "ours for both ears", true, start_ears, ears_samples, ears_frame, NULL, NULL, NULL, NULL,
+    "ours for both ears", true, start_ears, ears_samples, ears_frame, NULL, NULL, keep_ears, put_ears_back,
 };

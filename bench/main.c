@@ -21,7 +21,7 @@ struct target {
     double limit, worst;
 };
 
-enum { FIVE_TIMES, LIBLC3, THREE_TIMES, COPY, FOUR_TIMES, SHARE, SLOWEST, BOTH_EARS, TARGETS };
+enum { FIVE_TIMES, LIBLC3, THREE_TIMES, COPY, FOUR_TIMES, SHARE, SHARE_BOTH, SLOWEST, BOTH_EARS, TARGETS };
 
 static struct target targets[TARGETS] = {
     {"decoder at 48000, cases 2, 4 and 5: times as fast as the Rust", false, 5, 0},
@@ -29,8 +29,9 @@ static struct target targets[TARGETS] = {
     {"decoder at 8000 and 16000, cases 2, 4 and 5: times as fast as the Rust", false, 3, 0},
     {"decoder at 48000, case 1: nanoseconds", true, 400, 0},
     {"encoder at every rate: times as fast as the Rust", false, 4, 0},
-    {"slowest frame: percent of its duration", true, 2, 0},
-    {"slowest frame of each end, rate and duration: times what the Rust takes for the same frame", true, 1.2, 0},
+    {"slowest frame of one ear or the encoder: percent of its duration", true, 2, 0},
+    {"slowest frame of both ears: percent of its duration", true, 4, 0},
+    {"slowest frame of each end and of both ears, rate and duration: times what the Rust takes for the same frame", true, 1.2, 0},
     {"frame of both ears at 48000, every case: times a frame of one ear", true, 2.2, 0},
 };
 
@@ -60,10 +61,10 @@ static void hold_decoder(const struct setting *setting, int which, double rust, 
         hold(LIBLC3, liblc3 / ours);
 }
 
-// The slowest frame of an end at a rate and duration.
-static void hold_slowest(const struct setting *setting, struct slowest slowest)
+// The slowest frame of an end, or of both ears, at a rate and duration.
+static void hold_slowest(const struct setting *setting, struct slowest slowest, int share)
 {
-    hold(SHARE, percent_of_duration(setting, slowest));
+    hold(share, percent_of_duration(setting, slowest));
     hold(SLOWEST, slowest.ns / slowest.rust_ns);
 }
 
@@ -92,6 +93,14 @@ static const char *milliseconds(const struct setting *setting)
     return setting->duration == 10000 ? "10" : "7.5";
 }
 
+// The last two cells of a row.
+static void print_slowest(const struct setting *setting, struct slowest slowest)
+{
+    printf(" %.2g%% (%s) | %.2f |\n", percent_of_duration(setting, slowest), slowest.signal,
+           slowest.ns / slowest.rust_ns);
+    fflush(stdout);
+}
+
 static void print_row(const struct setting *setting, const char *what, double rust, double liblc3, double ours,
                       struct slowest slowest)
 {
@@ -99,9 +108,7 @@ static void print_row(const struct setting *setting, const char *what, double ru
     print_liblc3(" %.0f |", liblc3);
     printf(" %.0f | %.2f |", ours, rust / ours);
     print_liblc3(" %.2f |", liblc3 / ours);
-    printf(" %.2g%% (%s) | %.2f |\n", percent_of_duration(setting, slowest), slowest.signal,
-           slowest.ns / slowest.rust_ns);
-    fflush(stdout);
+    print_slowest(setting, slowest);
 }
 
 // The engines in their order: the Rust, ours, liblc3.
@@ -118,9 +125,9 @@ static void measure_setting(const struct setting *setting)
         if (slowest.ns > slowest_case.ns)
             slowest_case = slowest;
     }
-    hold_slowest(setting, slowest_case);
+    hold_slowest(setting, slowest_case, SHARE);
     struct slowest slowest = slowest_encoder(setting);
-    hold_slowest(setting, slowest);
+    hold_slowest(setting, slowest, SHARE);
     for (int is_voiced = 1; is_voiced >= 0; is_voiced--) {
         struct times times = measure_encoder(setting, is_voiced);
         print_row(setting, is_voiced ? "encoder, voiced" : "encoder, noise", times.ns[0], times.ns[2], times.ns[1],
@@ -141,20 +148,27 @@ static void print_listing(const char *program, const char *speed)
 
 static void measure_both_ears(const struct setting *setting)
 {
+    struct slowest slowest_case = {0, 0, ""};
     for (int which = 1; which <= CASES; which++) {
         struct ears_times times = measure_ears(setting, which);
+        struct slowest slowest = slowest_ears(setting, which);
         double ratio = times.both / times.one;
-        printf("| %u | %s | %d | %.0f | %.0f | %.2f |\n", setting->rate, milliseconds(setting), which, times.one,
+        printf("| %u | %s | %d | %.0f | %.0f | %.2f |", setting->rate, milliseconds(setting), which, times.one,
                times.both, ratio);
+        print_slowest(setting, slowest);
         hold(BOTH_EARS, ratio);
+        if (slowest.ns > slowest_case.ns)
+            slowest_case = slowest;
     }
+    hold_slowest(setting, slowest_case, SHARE_BOTH);
 }
 
 // A table of its own: both ears in one call, at 48000.
 static void print_ears(void)
 {
     fprintf(stderr, "bench: both ears\n");
-    printf("\n| Hz | ms | case | one ear ns | both ears ns | ratio |\n|---|---|---|---|---|---|\n");
+    printf("\n| Hz | ms | case | one ear ns | both ears ns | ratio | slowest frame, of its duration | slowest / Rust |\n");
+    printf("|---|---|---|---|---|---|---|---|\n");
     for (size_t i = 0; i < SETTINGS; i++)
         if (settings[i].rate == 48000)
             measure_both_ears(&settings[i]);

@@ -10,8 +10,10 @@ struct slowest {
     const char *signal;
 };
 
-// Each frame is also held to the Rust's output.
+// Each frame is also held to the Rust's output. Of both ears that is two runs of the Rust, whose times are added; both
+// ears hear the same signal, each with its own lags.
 struct slowest slowest_decoder(const struct setting *setting, int which);
+struct slowest slowest_ears(const struct setting *setting, int which);
 struct slowest slowest_encoder(const struct setting *setting);
 
 #endif
