@@ -1,4 +1,4 @@
--- What the functions that make eight outputs side by side promise. No promise of a public function names any of it.
+-- What the functions that make eight outputs side by side promise. Of public functions only `filter_frame`, which asks, names any of it (`padded`).
 use Prim.Native.Nat.{ℕ, _+_, _≤_}
 use mathlib.Core.List.{List, _++_}
 use lib.Ieee.{Float}
@@ -56,6 +56,6 @@ abbrev pub Within : Weighting → ℕ → ℕ → Type 0
 Within Weighting.Steady fade end = Unit
 Within (Weighting.Fade direction) fade end = end ≤ fade
 
--- a line with so many samples of 0.0 in front, in the place of those that it lacks
+-- a line with so many samples of 0.0 in front, instead of those that it lacks
 unfoldable pub padded : ℕ → List Float → List Float
 padded missing x = replicate missing 0·0 ++ x

@@ -1,5 +1,5 @@
 -- The replay of a recording, defined on the whole input as a list of bytes: each line that counts is a call of a fresh decoder with all samples
--- zero, and its row is read off that call.
+-- zero, and its row shows what that call did, and how the lag of its pitch was rounded.
 use Prim.Native.Nat.{ℕ}
 use mathlib.Core.Path.{_≡_}
 use mathlib.Core.Bool.{Bool, true, false, cond}
