@@ -1,5 +1,4 @@
 // The listing over standard output: what every program that lists has in common.
-use libc::STDERR_FILENO;
 use listing::machine::Listing;
 use outcome::write_out;
 ghost use mathlib.Core.Path.{_≡_};
@@ -30,11 +29,7 @@ pub fn begin() -> Pumped
 
 // A caller's buffer has no space for a row.
 fn no_space() {
-    io::write_all(
-        STDERR_FILENO,
-        b"the listing's buffer has no space for a row\n",
-    );
-    outcome::failed();
+    outcome::say(b"the listing's buffer has no space for a row");
 }
 
 // Feeds a piece of the input to the listing, and writes the rows that it makes by way of out.

@@ -4,122 +4,115 @@
 mod progress;
 
 use crate::progress::Progress;
-use libc::STDIN_FILENO;
-use outcome::write_out;
+use arguments::inputs::Event;
+use arguments::inputs::Inputs;
+use arguments::inputs::advance;
+use arguments::inputs::first;
+use arguments::options::is_to_run;
 use replay_listing::machine::Listing;
 use replay_listing::machine::begin;
 use replay_stream::end;
 use replay_stream::pump;
 use replay_stream::write_header;
 
-// The replay after a read, whether there may be more, and whether the input could not be read or
-// standard output took no more.
-struct Read {
+// The replay of the input that is open, how far it is, and whether to go on.
+struct Replayed {
     listing: Listing,
     progress: Progress,
     more: bool,
-    is_unread: bool,
-    is_unwritten: bool,
 }
 
-// Reads once, and replays what came. `name` is what the input is called where it cannot be read.
-fn replay_some(from: Listing, progress: Progress, fd: i32, name: &[u8]) -> Read {
-    let mut input = io::large_buffer();
+// Where the program is in its inputs, and what is replayed.
+struct Run {
+    inputs: Inputs,
+    replayed: Replayed,
+}
+
+fn replay_piece(from: Listing, progress: Progress, piece: &[u8]) -> Replayed {
     let mut out = io::large_buffer();
-    let got = libc::read(fd, &mut input);
-    if got < 0 {
-        outcome::fail(name);
-        return Read {
-            listing: from,
+    let out_of_the_way = progress::make_way(progress);
+    let pumped = pump(from, piece, &mut out);
+    let listing = pumped.listing;
+    Replayed {
+        listing,
+        progress: progress::show(out_of_the_way, piece.len()),
+        more: !pumped.failed,
+    }
+}
+
+// What an event makes of the replay; fd is the input's. It stops the run where standard output takes no
+// more, and where no input is left.
+fn after(event: Event, fd: i32, from: Replayed, piece: &[u8]) -> Replayed {
+    let listing = from.listing;
+    let progress = from.progress;
+    match event {
+        Event::Begun => Replayed {
+            listing: begin(),
+            progress: progress::begin(fd),
+            more: write_header(),
+        },
+        Event::Piece => replay_piece(listing, progress, piece),
+        Event::Ended => Replayed {
+            listing,
+            progress: progress::clear(progress),
+            more: end(listing),
+        },
+        Event::Failed => Replayed {
+            listing,
+            progress: progress::clear(progress),
+            more: true,
+        },
+        Event::Over => Replayed {
+            listing,
             progress,
             more: false,
-            is_unread: true,
-            is_unwritten: false,
-        };
-    }
-    let n = io::count(got, &input);
-    let out_of_the_way = progress::make_way(progress);
-    let pumped = pump(from, &input[..n], &mut out);
-    let listing = pumped.listing;
-    let is_unwritten = pumped.failed;
-    Read {
-        listing,
-        progress: progress::show(out_of_the_way, n),
-        more: n > 0 && !is_unwritten,
-        is_unread: false,
-        is_unwritten,
+        },
     }
 }
 
-// Reads to the end. A proved loop has to end, so it counts its turns down, from a number that no
-// run uses up.
-fn replay_all(from: Listing, fd: i32, name: &[u8]) -> Read {
-    let mut read = Read {
-        listing: from,
-        progress: progress::begin(fd),
-        more: true,
-        is_unread: false,
-        is_unwritten: false,
-    };
+fn step(run: Run) -> Run {
+    let mut input = io::large_buffer();
+    let inputs = run.inputs;
+    let replayed = run.replayed;
+    let next = advance(inputs, &mut input);
+    let event = next.event;
+    let count = next.count;
+    let inputs_then = next.inputs;
+    Run {
+        inputs: inputs_then,
+        replayed: after(event, inputs_then.fd, replayed, &input[..count]),
+    }
+}
+
+// Before the first input.
+fn start() -> Run {
+    Run {
+        inputs: first(),
+        replayed: Replayed {
+            listing: begin(),
+            progress: progress::none(),
+            more: true,
+        },
+    }
+}
+
+// Replays the inputs to their end. A proved loop has to end, so it counts its turns down, from a number
+// that no run uses up.
+fn replay_all() {
+    let mut run = start();
     let mut turns = u64::MAX;
-    while turns > 0 && read.more {
-        let listing = read.listing;
-        let progress = read.progress;
-        read = replay_some(listing, progress, fd, name);
+    while turns > 0 && run.replayed.more {
+        run = step(run);
         turns -= 1;
     }
-    read
-}
-
-// The whole replay of what a descriptor gives. Answers whether standard output took it.
-fn replay(fd: i32, name: &[u8]) -> bool {
-    if !write_header() {
-        return false;
-    }
-    let done = replay_all(begin(), fd, name);
-    let listing = done.listing;
-    let progress = done.progress;
-    progress::clear(progress);
-    if done.is_unread {
-        return true;
-    }
-    if done.is_unwritten {
-        return false;
-    }
-    end(listing)
-}
-
-// The replay of what an argument names: a file, or standard input for a dash.
-fn replay_named(name: &[u8]) -> bool {
-    if check::same(name, b"--help") {
-        return write_out(
-            b"usage: replay [FILE]..\nreplays lines of frame number, pitch index or a dash, active 0 or 1, nbits, parted by tabs, or of frame number\nand the word lost; from standard input for a dash, and where no file is named.\n",
-        );
-    }
-    if check::same(name, b"-") {
-        return replay(STDIN_FILENO, b"standard input");
-    }
-    let fd = os::open_read(name);
-    if fd < 0 {
-        outcome::fail(name);
-        return true;
-    }
-    let is_written = replay(fd, name);
-    libc::close(fd);
-    is_written
 }
 
 fn main() {
-    let n = os::arg_count();
-    if n < 2 {
-        replay(STDIN_FILENO, b"standard input");
-        return;
-    }
-    let mut name = io::buffer();
-    for i in 1..n {
-        let length = os::arg(i, &mut name);
-        if !replay_named(&name[..length]) {
-            return;
-        }
+    if is_to_run(
+        b"usage: replay [FILE]..\n",
+        b"replays lines of frame number, pitch index or a dash, active 0 or 1, nbits, separated by tabs, or of frame\nnumber and the word lost; from standard input for a dash, and where no file is named.\n",
+        usize::MAX,
+    ) {
+        replay_all();
     }
 }

@@ -35,12 +35,22 @@ fn size_of(fd: i32) -> u64 {
     }
     let end = libc::lseek(fd, 0, SEEK_END);
     if libc::lseek(fd, here, SEEK_SET) != here {
-        outcome::fail(b"going back to where the input began");
+        outcome::say(b"cannot go back to where the input began");
         return 0;
     }
     let size = natural(end);
     let passed = natural(here);
     if size > passed { size - passed } else { 0 }
+}
+
+// Before the first input.
+pub(crate) fn none() -> Progress {
+    Progress {
+        size: 0,
+        done: 0,
+        at: 0,
+        is_shown: false,
+    }
 }
 
 // Before the first byte.

@@ -1,5 +1,4 @@
 // The replay over standard output: what every program that replays has in common.
-use libc::STDERR_FILENO;
 use outcome::write_out;
 use replay_listing::machine::Listing;
 ghost use mathlib.Core.Path.{_≡_};
@@ -23,11 +22,7 @@ pub fn write_header() -> bool {
 
 // A caller's buffer has no space for a row.
 fn no_space() {
-    io::write_all(
-        STDERR_FILENO,
-        b"the replay's buffer has no space for a row\n",
-    );
-    outcome::failed();
+    outcome::say(b"the replay's buffer has no space for a row");
 }
 
 // Feeds a piece of the input to the listing, and writes the rows that it makes by way of out.

@@ -1,36 +1,39 @@
 // Runs the vectors of the standard's Appendix C through the encoder and the decoder, and prints for
 // each how many of its values were compared and how many are out of tolerance. The arguments name
-// the files; with none, standard input is read.
+// the files; for a dash, and where there are none, standard input is read.
 mod cases;
 mod frames;
 mod past;
 mod run;
 mod tally;
 
-use libc::STDIN_FILENO;
-use libc::STDOUT_FILENO;
+use arguments::inputs::Opened;
+use arguments::inputs::close;
+use arguments::inputs::end;
+use arguments::inputs::open;
+use arguments::inputs::write_name;
+use arguments::options::is_to_run;
 use run::compare;
 
-fn compare_file(path: &[u8]) {
-    let fd = os::open_read(path);
-    if fd < 0 {
-        outcome::fail(path);
-        return;
+// Compares the input that an argument names.
+fn compare_named(argument: usize) {
+    let opened = open(argument);
+    if let Opened::Input(fd) = opened {
+        write_name(argument);
+        compare(fd);
+        close(fd);
     }
-    io::write_all(STDOUT_FILENO, path);
-    io::write_all(STDOUT_FILENO, b"\n");
-    compare(fd);
-    libc::close(fd);
 }
 
 fn main() {
-    let n = os::arg_count();
-    if n < 2 {
-        compare(STDIN_FILENO);
+    if !is_to_run(
+        b"usage: test_appendix_c [FILE]..\n",
+        b"puts the vectors of the standard's Appendix C through the encoder and the decoder, and prints which values are\nout of tolerance; from standard input for a dash, and where no file is named.\n",
+        usize::MAX,
+    ) {
+        return;
     }
-    let mut path = io::buffer();
-    for i in 1..n {
-        let length = os::arg(i, &mut path);
-        compare_file(&path[..length]);
+    for argument in 1..end() {
+        compare_named(argument);
     }
 }

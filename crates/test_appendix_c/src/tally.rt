@@ -159,6 +159,7 @@ impl Tally {
     // The same, and standard error is told why the rest of the file is not compared: a failure.
     pub(crate) fn stop(self, why: &[u8]) -> Self {
         let place = self.place;
+        outcome::begin_message();
         io::write_all(STDERR_FILENO, b"after ");
         print_place(STDERR_FILENO, place);
         io::write_all(STDERR_FILENO, b": ");

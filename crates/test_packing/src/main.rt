@@ -1,5 +1,6 @@
 // Writes every pitch record as bytes and reads it back, and reads every byte and every pair of
 // bytes, to be compared with another packer's.
+use arguments::options::is_to_run;
 use lag::pitch::PitchRecord;
 use lag::pitch::Present;
 use lag::pitch::Sent;
@@ -180,6 +181,13 @@ fn read_every(width: usize, count: u32) -> bool
 }
 
 fn main() {
+    if !is_to_run(
+        b"usage: test_packing\n",
+        b"writes every pitch record as bytes and reads it back, and reads every byte and every pair of bytes.\n",
+        0,
+    ) {
+        return;
+    }
     let _is_written = outcome::write_out(
         b"index\tactive\troom\tanswer\twritten\tbytes\tanswer\tindex\tactive\tused\n",
     )

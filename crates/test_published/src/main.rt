@@ -1,4 +1,5 @@
 // Writes the bits of each published table, to be compared with the bits that came with them.
+use arguments::options::is_to_run;
 use libc::STDOUT_FILENO;
 
 fn print_bits(value: f32) -> bool {
@@ -53,5 +54,12 @@ fn print_high() -> bool {
 }
 
 fn main() {
+    if !is_to_run(
+        b"usage: test_published\n",
+        b"writes the bits of each published coefficient table.\n",
+        0,
+    ) {
+        return;
+    }
     let _is_written = print_encoder() && print_low() && print_middle() && print_high();
 }

@@ -1,9 +1,10 @@
 // Roots of many floats, written as bit patterns to be compared with another implementation's.
 // `test_root spread` takes 104,693 inputs from all exponents, `test_root whole` all 2 * 8,388,608
 // significands of the exponents 0 and 1, and `test_root every` all 4,294,967,296 patterns.
+use arguments::options::is_to_run;
+use arguments::options::refuse;
 use floats::bits::bits_of;
 use floats::bits::float_of;
-use libc::STDERR_FILENO;
 use libc::STDOUT_FILENO;
 use root::Root;
 ghost use Prim.Native.Nat.{_<_};
@@ -172,10 +173,17 @@ fn is_run(word: &[u8]) -> bool {
 }
 
 fn main() {
+    let usage = b"usage: test_root spread | whole | every\n";
+    if !is_to_run(
+        usage,
+        b"writes square roots: of 104693 floats of all exponents, of all floats of two exponents, or of all floats.\n",
+        1,
+    ) {
+        return;
+    }
     let mut word = io::buffer();
     let n = os::arg(1, &mut word);
     if !is_run(&word[..n]) {
-        io::write_all(STDERR_FILENO, b"usage: test_root spread | whole | every\n");
-        outcome::failed();
+        refuse(1, usage);
     }
 }

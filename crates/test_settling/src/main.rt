@@ -1,6 +1,7 @@
 // How many inactive frames settle a decoder, by a run at 8000 Hz. Two decoders differ in the samples
 // of their first active frame. Then both are given equal frames: active ones, some inactive ones, and
 // one more active frame, whose outputs are compared.
+use arguments::options::is_to_run;
 use decoder::frame::Framed;
 use decoder::frame::frame;
 use decoder::state::Decoder;
@@ -109,6 +110,13 @@ fn compare(duration: u32, nf: usize, active: usize, inactive: usize) -> bool
 }
 
 fn main() {
+    if !is_to_run(
+        b"usage: test_settling\n",
+        b"shows how many inactive frames settle a decoder at 8000 Hz.\n",
+        0,
+    ) {
+        return;
+    }
     let _is_written = compare(10000, 80, 1, 2)
         && compare(10000, 80, 1, 3)
         && compare(7500, 60, 2, 2)

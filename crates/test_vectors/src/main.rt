@@ -1,6 +1,7 @@
 // Compares an end, or both ears of the decoder, with vector files: makes every call that a file lists, and
 // prints where an answer, a report, a sample or a pitch record differs from what the file says. The
-// arguments name an end and its files, and so on; an end that is named without a file reads standard input.
+// arguments name an end and its files, and so on; for a dash, and where an end is named without a file,
+// standard input is read.
 mod both_ears;
 mod ear;
 mod encoding;
@@ -12,13 +13,16 @@ mod state_parts;
 mod tally;
 mod walk;
 
-use libc::STDERR_FILENO;
-use libc::STDIN_FILENO;
-use libc::STDOUT_FILENO;
+use arguments::inputs::Opened;
+use arguments::inputs::close;
+use arguments::inputs::open;
+use arguments::inputs::write_name;
+use arguments::options::is_to_run;
+use arguments::options::refuse;
 use walk::End;
 use walk::compare;
 
-// What a word means: an end, or a file.
+// What an argument means: an end, or a file.
 enum Meant {
     End(End),
     File,
@@ -30,7 +34,10 @@ struct Chosen {
     is_used: bool,
 }
 
-fn meaning(word: &[u8]) -> Meant {
+fn meaning(argument: usize) -> Meant {
+    let mut space = io::buffer();
+    let length = os::arg(argument, &mut space);
+    let word = &space[..length];
     if check::same(word, b"decoder") {
         return Meant::End(End::Decoder);
     }
@@ -43,29 +50,26 @@ fn meaning(word: &[u8]) -> Meant {
     Meant::File
 }
 
-fn compare_file(end: End, path: &[u8]) {
-    let fd = os::open_read(path);
-    if fd < 0 {
-        outcome::fail(path);
-        return;
+// Compares the input that an argument names.
+fn compare_named(end: End, argument: usize) {
+    let opened = open(argument);
+    if let Opened::Input(fd) = opened {
+        write_name(argument);
+        compare(end, fd);
+        close(fd);
     }
-    io::write_all(STDOUT_FILENO, path);
-    io::write_all(STDOUT_FILENO, b"\n");
-    compare(end, fd);
-    libc::close(fd);
 }
 
-// Nothing more is named for an end.
+// Nothing more is named for an end. An argument that is not there stands for standard input.
 fn finish(chosen: Chosen) {
     let end = chosen.end;
     if !chosen.is_used {
-        compare(end, STDIN_FILENO);
+        compare_named(end, os::arg_count());
     }
 }
 
-// Takes one word.
-fn take(chosen: Chosen, word: &[u8]) -> Chosen {
-    let meant = meaning(word);
+fn take(chosen: Chosen, argument: usize) -> Chosen {
+    let meant = meaning(argument);
     match meant {
         Meant::End(end) => {
             finish(chosen);
@@ -76,42 +80,38 @@ fn take(chosen: Chosen, word: &[u8]) -> Chosen {
         }
         Meant::File => {
             let end = chosen.end;
-            compare_file(end, word);
+            compare_named(end, argument);
             Chosen { end, is_used: true }
         }
     }
 }
 
-fn fail_usage() {
-    io::write_all(
-        STDERR_FILENO,
-        b"usage: test_vectors decoder|encoder|ears [FILES..] [decoder|encoder|ears [FILES..]]..\n",
-    );
-    outcome::failed();
-}
-
-// Takes the words after the first end.
-fn take_words(first: End) -> Chosen {
-    let n = os::arg_count();
-    let mut word = io::buffer();
+// Takes the arguments after the first end.
+fn take_all(first: End) -> Chosen {
     let mut chosen = Chosen {
         end: first,
         is_used: false,
     };
-    for i in 2..n {
-        let length = os::arg(i, &mut word);
-        chosen = take(chosen, &word[..length]);
+    for argument in 2..os::arg_count() {
+        chosen = take(chosen, argument);
     }
     chosen
 }
 
 fn main() {
-    let mut word = io::buffer();
-    let length = os::arg(1, &mut word);
-    let meant = meaning(&word[..length]);
+    let usage =
+        b"usage: test_vectors decoder|encoder|ears [FILE].. [decoder|encoder|ears [FILE]..]..\n";
+    if !is_to_run(
+        usage,
+        b"makes every call that vector files list, and prints where what it gives differs from what they say; from\nstandard input for a dash, and where no file is named.\n",
+        usize::MAX,
+    ) {
+        return;
+    }
+    let meant = meaning(1);
     let Meant::End(first) = meant else {
-        fail_usage();
+        refuse(1, usage);
         return;
     };
-    finish(take_words(first));
+    finish(take_all(first));
 }

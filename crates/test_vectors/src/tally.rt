@@ -163,6 +163,7 @@ impl Tally {
 
     // The same, and standard error is told why the rest of the file is not compared: a failure.
     pub(crate) fn stop(self, why: &[u8]) -> Self {
+        outcome::begin_message();
         io::write_all(STDERR_FILENO, b"after ");
         self.print_call(STDERR_FILENO);
         io::write_all(STDERR_FILENO, b": ");

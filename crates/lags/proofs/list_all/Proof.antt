@@ -4,10 +4,10 @@ use Rattle.lags.proofs.list_all.Statement.{statement}
 use Rattle.lags.proofs.list_all.Tie as tie
 
 abbrev Inv-loop : tie.InvT-loop
-Inv-loop fd name read₀ turns₀ read turns = Unit {0}
+Inv-loop run₀ turns₀ run turns = Unit {0}
 
 abbrev μ-loop : tie.MeasureT-loop
-μ-loop fd name read₀ turns₀ read turns = turns
+μ-loop run₀ turns₀ run turns = turns
 
 pub list-all-spec : {M : Type 1} → statement M
 list-all-spec =
@@ -15,6 +15,7 @@ list-all-spec =
     (tie.spec
     Inv-loop
     μ-loop
+    (λ c κs. search needs)
     (λ c. search needs)
     (λ c κs. search needs)
     (λ c. search needs)
