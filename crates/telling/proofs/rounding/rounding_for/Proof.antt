@@ -6,8 +6,8 @@ use mir.ValLaws.{toZ-ofZ}
 use borrow.Author.Needs.{needs}
 use Rattle.lag.specs.Sent.{sentOf}
 use Rattle.lag.specs.declared.pitch.Sent.the-variants.{Present}
-use Rattle.replaying.proofs.rounding.rounding_for.Statement.{statement}
-use Rattle.replaying.proofs.rounding.rounding_for.Tie as tie
+use Rattle.telling.proofs.rounding.rounding_for.Statement.{statement}
+use Rattle.telling.proofs.rounding.rounding_for.Tie as tie
 
 -- what is sent of a pitch that is present
 sent-present : (c : tie.After-present) → sentOf (c .before .before .before .args .pitch) ≡ Present (c .present .given .0 .0)

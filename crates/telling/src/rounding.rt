@@ -1,4 +1,4 @@
-// How the lag of a frame was rounded, as its row shows it.
+// How the lag of a frame was rounded.
 use lag::pitch::PitchRecord;
 use lag::pitch::Sent;
 use lag::pitch::sent_of;
@@ -6,11 +6,11 @@ use lag::rescale::LookedUpLag;
 use lag::rescale::look_up_lag;
 use rates::table::Rate;
 ghost use mathlib.Core.Path.{_≡_};
-ghost use Rattle.replaying.specs.Roundings.{roundingFor};
+ghost use Rattle.telling.specs.Roundings.{roundingFor};
 
-// A dash where no lag is shown.
+// None where the frame has no lag.
 pub enum Rounding {
-    Dash,
+    None,
     Difference(i32),
 }
 
@@ -19,14 +19,14 @@ pub(crate) fn rounding_for(fs: Rate, pitch: PitchRecord) -> Rounding
     ensures { λ r. ⌜ r ≡ roundingFor fs pitch ⌝ }
 {
     match sent_of(pitch) {
-        Sent::Absent => Rounding::Dash,
+        Sent::Absent => Rounding::None,
         Sent::Present(present) => {
             if !present.active {
-                return Rounding::Dash;
+                return Rounding::None;
             }
             match look_up_lag(fs, present.index) {
                 LookedUpLag::Lag(lag) => Rounding::Difference(lag.rounding),
-                LookedUpLag::IndexTooLarge => Rounding::Dash,
+                LookedUpLag::IndexTooLarge => Rounding::None,
             }
         }
     }
