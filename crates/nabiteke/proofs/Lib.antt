@@ -4,6 +4,7 @@ pub mod DecoderCalls
 pub mod EarCalls
 pub mod DecoderLaws
 pub mod EarLaws
+pub mod ToldLaws
 pub mod EncoderFrames
 pub mod EncoderCalls
 pub mod EncoderLaws

@@ -24,8 +24,9 @@ use Rattle.settling_laws.specs.Calls.{after, FitState}
 use Rattle.settling_laws.proofs.Silence.{range-zeros}
 use Rattle.settling_laws.proofs.Judging.{OutcomeOf}
 use Rattle.settling_laws.proofs.FitStates.{cleared-fit, lost-done, after-lost, unsettled-fit, framed-fit}
+use Rattle.telling.specs.Told.{judgedFitted}
 use Rattle.entries.specs.declared.line.Content.{Content}
-use Rattle.replaying.specs.Frames.{judgedWhere, judgedMarks, playedBy, lostWith, lostMarks, replayedContent}
+use Rattle.replaying.specs.Frames.{judgedMarks, playedBy, lostWith, lostMarks, replayedContent}
 use Rattle.replay_laws.specs.Whole.{Setting, Usable, at48000, first, shownBy, zeros, given, callOf, calledRow}
 
 -- the decoder before the first line has the setting's configuration
@@ -62,7 +63,7 @@ module _ (setting : Setting) (usable : Usable setting) (d : Decoder) (fit : FitS
   -- so the verdict by the marks is the decoder's on the side information
   pub marks-verdict : (side : SideInfo) → judgedMarks (d .registers .marks) side ≡ judgedSide (d .registers .marks) (setting .config) side
   unfolding judgedMarks
-  marks-verdict side = ap (judgedWhere (d .registers .marks) side) fit-marks
+  marks-verdict side = ap (judgedFitted (d .registers .marks) side) fit-marks
 
   -- the set and the samples are good, so the verdict is that of the side information
   pub same-verdict : (side : SideInfo) →

@@ -21,31 +21,31 @@ use Rattle.decoder.specs.declared.state.Decoder.{Decoder}
 use Rattle.settling_laws.specs.Calls.{frame, reply, FitState}
 use Rattle.settling_laws.proofs.Judging.{OutcomeOf}
 use Rattle.entries.specs.declared.line.Content.{Content}
-use Rattle.replaying.specs.Roundings.{roundingOf, roundingFor}
+use Rattle.telling.specs.Roundings.{roundingOf, roundingFor}
+use Rattle.telling.specs.declared.rounding.Rounding.{Rounding}
 use Rattle.replaying.specs.declared.frame.Columns.{Columns}
 use Rattle.replaying.specs.declared.frame.Shown.{Shown}
-use Rattle.replaying.specs.declared.rounding.Rounding.{Rounding}
 use Rattle.replay_laws.specs.Whole.{Setting, shownBy, zeros, given, shownOf}
 use Rattle.replay_laws.proofs.OneCall.{outcome-of, by-outcome}
 
 -- what is shown of a frame's pitch: no lag, or one lookup of its index
 pub data OneLookup (fs : Rate) (pitch : PitchRecord) (c : Columns) : Type 0 where
-  no-lag : c .active ≡ false → c .rounding ≡ Rounding.Dash → OneLookup fs pitch c
+  no-lag : c .told .active ≡ false → c .told .rounding ≡ Rounding.None → OneLookup fs pitch c
   looked-up : (p : present.Present) (l : RoundedLag) → pitch ≡ Present p → lookedUpLag fs (p .index) ≡ LookedUpLag.Lag l →
-      c .active ≡ true → c .lag ≡ l .lag → c .rounding ≡ Rounding.Difference (l .rounding) → OneLookup fs pitch c
+      c .told .active ≡ true → c .told .lag ≡ l .lag → c .told .rounding ≡ Rounding.Difference (l .rounding) → OneLookup fs pitch c
 
 -- a row with a lag that the decoder found
-of-found : (fs : Rate) (pitch : PitchRecord) (c : Columns) → c .active ≡ isActive pitch → c .rounding ≡ roundingFor fs pitch →
-    lagFor fs pitch ≡ FoundLag.Lag (c .lag) → OneLookup fs pitch c
+of-found : (fs : Rate) (pitch : PitchRecord) (c : Columns) → c .told .active ≡ isActive pitch → c .told .rounding ≡ roundingFor fs pitch →
+    lagFor fs pitch ≡ FoundLag.Lag (c .told .lag) → OneLookup fs pitch c
 of-found fs Absent c a r f = no-lag a r
 of-found fs (Present p) c a r f =
     go (p .active) (lookedUpLag fs (p .index)) refl a r (ap (lagWhere (p .active)) (same-lag fs (p .index)) ∙ f)
   where
-    go : (b : Bool) (u : LookedUpLag) → lookedUpLag fs (p .index) ≡ u → c .active ≡ b → c .rounding ≡ cond b (roundingOf u) Rounding.Dash →
-        lagWhere b (lagAlone u) ≡ FoundLag.Lag (c .lag) → OneLookup fs (Present p) c
+    go : (b : Bool) (u : LookedUpLag) → lookedUpLag fs (p .index) ≡ u → c .told .active ≡ b → c .told .rounding ≡ cond b (roundingOf u) Rounding.None →
+        lagWhere b (lagAlone u) ≡ FoundLag.Lag (c .told .lag) → OneLookup fs (Present p) c
     go false u e t q g = no-lag t q
     go true LookedUpLag.IndexTooLarge e t q g = let z : _≡_ {A = ℕ} 0 1 = cc in absurd (omega arith)
-    go true (LookedUpLag.Lag l) e t q g = let same : l .lag ≡ c .lag = cc in looked-up p l refl e t (sym same) q
+    go true (LookedUpLag.Lag l) e t q g = let same : l .lag ≡ c .told .lag = cc in looked-up p l refl e t (sym same) q
 
 pub rounding-column : (setting : Setting) (d : Decoder) → FitState (setting .config) d → (side : SideInfo) (c : Columns) →
     shownOf setting d (Content.Frame side) ≡ Shown.Columns c → OneLookup (setting .config .fs) (side .pitch) c

@@ -25,7 +25,7 @@ marksRulesOf setting = marksRulesAt (setting .rate) (setting .duration)
 -- the plan of a frame that its row shows
 abbrev pub shownPlan : Setting → Columns → Plan
 shownPlan setting c =
-    record { config = setting .config; active = c .active; lag = c .lag; gain = c .gain; transition = c .transition }
+    record { config = setting .config; active = c .told .active; lag = c .told .lag; gain = c .told .gain; transition = c .told .transition }
 
 module _ (setting : Setting) where
   -- a line that counts adds its call to those made before

@@ -5,21 +5,12 @@ use mathlib.Core.List.{List, _++_}
 use Rattle.rates.specs.Answers.{numberOf}
 use Rattle.lag.specs.declared.gain.Gain.{Gain}
 use Rattle.lag.specs.declared.rescale.Lag.{Lag}
-use Rattle.filter.specs.declared.transition.Transition.{Transition}
-use Rattle.filter.specs.declared.transition.Transition.the-variants.{Inactive, Activated, Deactivated, ActiveNoPitchChange, ActivePitchChanged}
+use Rattle.telling.specs.Told.{caseNumber}
+use Rattle.telling.specs.declared.rounding.Rounding.{Rounding}
 use Rattle.cells.specs.Texts.{cell, signedCell, dashCell}
 use Rattle.replaying.specs.declared.frame.Columns.{Columns}
 use Rattle.replaying.specs.declared.frame.Shown.{Shown}
 use Rattle.replaying.specs.declared.frame.Row.{Row}
-use Rattle.replaying.specs.declared.rounding.Rounding.{Rounding}
-
--- the cases as docs/SCOPE.md numbers them
-abbrev pub caseNumber : Transition → ℕ
-caseNumber Inactive = 1
-caseNumber Activated = 2
-caseNumber Deactivated = 3
-caseNumber ActiveNoPitchChange = 4
-caseNumber ActivePitchChanged = 5
 
 -- settled is 0 or 1
 abbrev pub flagNumber : Bool → ℕ
@@ -39,14 +30,14 @@ gainText true (Gain.On gain row) = cell row 9
 
 -- how the lag was rounded; a dash where no lag is shown
 abbrev pub roundingText : Rounding → List ℕ
-roundingText Rounding.Dash = dashCell 9
+roundingText Rounding.None = dashCell 9
 roundingText (Rounding.Difference d) = signedCell d 9
 
 -- case, whole, quarter, row, settled, rounding
 abbrev pub columnsText : Columns → List ℕ
 columnsText c =
-    cell (caseNumber (c .transition)) 9 ++ lagText (c .active) (c .lag) ++ gainText (c .active) (c .gain) ++ cell (flagNumber (c .settled)) 9 ++
-    roundingText (c .rounding)
+    cell (caseNumber (c .told .transition)) 9 ++ lagText (c .told .active) (c .told .lag) ++ gainText (c .told .active) (c .told .gain) ++
+    cell (flagNumber (c .settled)) 9 ++ roundingText (c .told .rounding)
 
 abbrev pub dashesText : List ℕ
 dashesText = dashCell 9 ++ dashCell 9 ++ dashCell 9 ++ dashCell 9 ++ dashCell 9 ++ dashCell 9

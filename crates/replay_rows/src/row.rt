@@ -3,32 +3,19 @@ use cells::cell::put_cell;
 use cells::cell::put_dash;
 use cells::cell::put_text;
 use cells::signed::put_signed;
-use filter::transition::Transition;
 use lag::gain::Gain;
 use lag::rescale::Lag;
 use rates::answer::number;
 use replaying::frame::Columns;
 use replaying::frame::Row;
 use replaying::frame::Shown;
-use replaying::rounding::Rounding;
+use telling::rounding::Rounding;
+use telling::told::case_number;
 ghost use mathlib.Core.Path.{_≡_};
 ghost use Prim.Native.Nat.{_+_, _≤_};
 ghost use lib.ListN.{length};
 ghost use Rattle.cells.specs.Texts.{Put, Written};
-ghost use Rattle.replay_rows.specs.Rows.{caseNumber, flagNumber, lagText, gainText, roundingText, columnsText, dashesText, shownText, rowText};
-
-// The number of a case.
-fn case_number(transition: Transition) -> u64
-    ensures { λ r. ⌜ r ≡ caseNumber transition ⌝ }
-{
-    match transition {
-        Transition::Inactive => 1,
-        Transition::Activated => 2,
-        Transition::Deactivated => 3,
-        Transition::ActiveNoPitchChange => 4,
-        Transition::ActivePitchChanged => 5,
-    }
-}
+ghost use Rattle.replay_rows.specs.Rows.{flagNumber, lagText, gainText, roundingText, columnsText, dashesText, shownText, rowText};
 
 fn flag_number(flag: bool) -> u64
     ensures { λ r. ⌜ r ≡ flagNumber flag ⌝ }
@@ -72,7 +59,7 @@ fn put_rounding(out: &mut [u8], at: usize, rounding: Rounding) -> usize
     ensures { λ r. ⌜ r ≤ at + 22 ⌝ }
 {
     match rounding {
-        Rounding::Dash => put_dash(out, at, b'\t'),
+        Rounding::None => put_dash(out, at, b'\t'),
         Rounding::Difference(difference) => put_signed(out, at, difference, b'\t'),
     }
 }
@@ -83,13 +70,14 @@ fn put_columns(out: &mut [u8], at: usize, columns: Columns) -> usize
     ensures { λ r. ⌜ Written (now (out .entry)) at (columnsText columns) (now (out .exit)) r ⌝ }
     ensures { λ r. ⌜ r ≤ at + 127 ⌝ }
 {
-    let transition = columns.transition;
-    let lag = columns.lag;
-    let gain = columns.gain;
-    let rounding = columns.rounding;
-    let after_case = put_cell(out, at, case_number(transition), b'\t');
-    let after_lag = put_lag(out, after_case, columns.active, lag);
-    let after_gain = put_gain(out, after_lag, columns.active, gain);
+    let told = columns.told;
+    let transition = told.transition;
+    let lag = told.lag;
+    let gain = told.gain;
+    let rounding = told.rounding;
+    let after_case = put_cell(out, at, case_number(transition) as u64, b'\t');
+    let after_lag = put_lag(out, after_case, told.active, lag);
+    let after_gain = put_gain(out, after_lag, told.active, gain);
     let after_settled = put_cell(out, after_gain, flag_number(columns.settled), b'\t');
     put_rounding(out, after_settled, rounding)
 }

@@ -5,14 +5,13 @@ use Rattle.rates.specs.declared.answer.Answer.the-variants.{Done}
 use Rattle.rates.specs.declared.config.Configured.{Configured}
 use Rattle.lag.specs.declared.pitch.PitchRecord.{PitchRecord}
 use Rattle.control.specs.State.{fitConfig}
-use Rattle.judging.specs.Judge.{judgedSide}
 use Rattle.control.specs.Next.{nextMarks, unsettled}
 use Rattle.control.specs.declared.marks.Marks.{Marks}
 use Rattle.judging.specs.declared.plan.SideInfo.{SideInfo}
 use Rattle.judging.specs.declared.plan.Plan.{Plan}
 use Rattle.judging.specs.declared.plan.Verdict.{Verdict}
+use Rattle.telling.specs.Told.{judgedFitted, toldOf}
 use Rattle.entries.specs.declared.line.Content.{Content}
-use Rattle.replaying.specs.Roundings.{roundingFor}
 use Rattle.replaying.specs.declared.frame.Columns.{Columns}
 use Rattle.replaying.specs.declared.frame.Shown.{Shown}
 use Rattle.replaying.specs.declared.frame.Row.{Row}
@@ -22,24 +21,13 @@ use Rattle.replaying.specs.declared.frame.Played.{Played}
 abbrev pub dashedRow : Answer → Row
 dashedRow answer = record { answer = answer; shown = Shown.Dashes }
 
--- what an accepted frame shows of its plan, the settled report, and how the lag of its pitch was rounded
+-- what an accepted frame shows: what its plan tells, and the settled report
 abbrev pub columnsOf : Plan → PitchRecord → Bool → Columns
-columnsOf plan pitch settled = record {
-  transition = plan .transition;
-  active = plan .active;
-  lag = plan .lag;
-  gain = plan .gain;
-  settled = settled;
-  rounding = roundingFor (plan .config .fs) pitch;
-}
+columnsOf plan pitch settled = record { told = toldOf plan pitch; settled = settled }
 
--- 9, which fitness decides; then 6 and 7
-abbrev pub judgedWhere : Marks → SideInfo → Configured → Verdict
-judgedWhere r side (Configured.Refused answer) = Verdict.Refused answer
-judgedWhere r side (Configured.Config c) = judgedSide r c side
-
+-- the verdict of the decoder, where set and samples are good
 unfoldable pub judgedMarks : Marks → SideInfo → Verdict
-judgedMarks r side = judgedWhere r side (fitConfig r)
+judgedMarks r side = judgedFitted r side (fitConfig r)
 
 abbrev pub acceptedAs : Plan → PitchRecord → Marks → Played
 acceptedAs plan pitch next =

@@ -1,4 +1,3 @@
--- A replay without samples and coefficients: how the lag of a frame was rounded, what came of the frame, and a line.
-pub mod Roundings
+-- A replay without samples and coefficients: what came of a frame, and a line.
 pub mod Frames
 pub mod Steps

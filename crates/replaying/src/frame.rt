@@ -1,32 +1,24 @@
 // A frame and a loss mark, as far as their row goes.
-use crate::rounding::Rounding;
-use crate::rounding::rounding_for;
 use control::fitness::fit_config;
 use control::marks::Marks;
 use control::next::advance;
 use control::next::unsettle;
 use entries::line::Content;
-use filter::transition::Transition;
-use judging::plan::Plan;
 use judging::plan::SideInfo;
 use judging::plan::Verdict;
-use judging::plan::judge_side;
-use lag::gain::Gain;
 use lag::pitch::PitchRecord;
-use lag::rescale::Lag;
 use rates::answer::Answer;
 use rates::config::Configured;
+use telling::told::Told;
+use telling::told::judge_fitted;
+use telling::told::told_of;
 ghost use mathlib.Core.Path.{_≡_};
-ghost use Rattle.replaying.specs.Frames.{dashedRow, columnsOf, judgedMarks, playedBy, lostMarks, replayedContent};
+ghost use Rattle.replaying.specs.Frames.{dashedRow, judgedMarks, playedBy, lostMarks, replayedContent};
 
-// What the row of an accepted frame shows.
+// What the row of an accepted frame shows: what its plan tells, and the settled report.
 pub struct Columns {
-    pub transition: Transition,
-    pub active: bool,
-    pub lag: Lag,
-    pub gain: Gain,
+    pub told: Told,
     pub settled: bool,
-    pub rounding: Rounding,
 }
 
 pub enum Shown {
@@ -55,33 +47,11 @@ pub(crate) fn dashed_row(answer: Answer) -> Row
     }
 }
 
-// What the row of a frame shows of its plan, its pitch and the report.
-fn columns_of(plan: Plan, pitch: PitchRecord, settled: bool) -> Columns
-    ensures { λ r. ⌜ r ≡ columnsOf plan pitch settled ⌝ }
-{
-    let config = plan.config;
-    let fs = config.fs;
-    let transition = plan.transition;
-    let lag = plan.lag;
-    let gain = plan.gain;
-    Columns {
-        transition,
-        active: plan.active,
-        lag,
-        gain,
-        settled,
-        rounding: rounding_for(fs, pitch),
-    }
-}
-
 // The verdict of the decoder on a frame whose set and samples are good.
 fn judge_marks(marks: Marks, side: SideInfo) -> Verdict
     ensures { λ r. ⌜ r ≡ judgedMarks marks side ⌝ }
 {
-    match fit_config(marks) {
-        Configured::Config(config) => judge_side(marks, config, side),
-        Configured::Refused(answer) => Verdict::Refused(answer),
-    }
+    judge_fitted(marks, fit_config(marks), side)
 }
 
 // What a verdict on a frame with this pitch leads to.
@@ -98,11 +68,13 @@ fn play(marks: Marks, pitch: PitchRecord, verdict: Verdict) -> Played
             let n_ms = config.n_ms;
             let lag = plan.lag;
             let next = advance(marks, n_ms, plan.active, lag);
+            let told = told_of(plan, pitch);
+            let settled = next.settled;
             Played {
                 marks: next,
                 row: Row {
                     answer: Answer::Done,
-                    shown: Shown::Columns(columns_of(plan, pitch, next.settled)),
+                    shown: Shown::Columns(Columns { told, settled }),
                 },
             }
         }

@@ -1,4 +1,4 @@
--- `judge_marks` goes by fitness.
+-- `judge_marks` goes by the marks' fitness.
 use Rattle.replaying.specs.Frames.{judgedMarks}
 use borrow.Author.Needs.{needs}
 use Rattle.replaying.proofs.frame.judge_marks.Statement.{statement}
@@ -6,19 +6,7 @@ use Rattle.replaying.proofs.frame.judge_marks.Tie as tie
 
 returns : tie.Need-returns
 unfolding judgedMarks
-returns c = rw (c .judge-side .ensures, ← c .before .before .before .before .fit-config .ensures, c .before .before .config .given .1)
-
-returns-2 : tie.Need-returns-2
-unfolding judgedMarks
-returns-2 c = rw (← c .before .before .before .fit-config .ensures, c .before .answer .given .1)
+returns c = rw (c .judge-fitted .ensures, c .before .fit-config .ensures)
 
 pub judge-marks-spec : {M : Type 1} → statement M
-judge-marks-spec =
-    tie.close
-    (tie.spec
-    (λ c κs. search needs)
-    (λ c. search needs)
-    (λ c κs. search needs)
-    (λ c. search needs)
-    returns
-    returns-2)
+judge-marks-spec = tie.close (tie.spec (λ c κs. search needs) (λ c κs. search needs) returns)

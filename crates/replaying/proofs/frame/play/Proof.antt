@@ -9,7 +9,7 @@ returns c = rw (c .dashed-row .ensures, c .before .before .verdict .given .1)
 returns-2 : tie.Need-returns-2
 returns-2 c =
     rw (
-      c .columns-of .ensures,
+      c .told-of .ensures,
       c .before .advance .ensures,
       c .before .before .before .before .before .verdict2 .given .1,
     )

@@ -1,0 +1,2 @@
+-- What is told of a frame, beside the verdict on it.
+pub mod Agreement
