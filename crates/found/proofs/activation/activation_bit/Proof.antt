@@ -1,12 +1,10 @@
 -- `activation_bit` puts the correlation, the lag and the tests together.
-use Prim.Native.Nat.{ℕ, _^_}
-use mathlib.Core.Path.{_≡_, refl, _∙_, ap}
+use Prim.Native.Nat.{_^_}
+use mathlib.Core.Path.{_≡_, _∙_, ap}
 use native.Mathlib.Omega.{arith}
 use lib.Dec.{le→leb}
-use lib.IntN.{pos}
-use lib.Ieee.{binary32, ofBits, ofInt, round, inFloat}
-use Rattle.floats.specs.Single.{_⊕_, _⊘_}
-use Rattle.found.specs.Activation.{noDelay, shifted, sumsOf, ncOf, pitchOf, activation}
+use lib.Ieee.{ofBits, ofInt, round, inFloat}
+use Rattle.found.specs.Activation.{noDelay, shifted, sumsOf, ncOf, activation}
 use borrow.Author.Needs.{needs}
 use Rattle.found.proofs.activation.activation_bit.Statement.{statement}
 use Rattle.found.proofs.activation.activation_bit.Tie as tie
@@ -32,14 +30,9 @@ nc-is : (c : tie.After-normalised) →
     c .normalised .result ≡ ncOf (sumsOf (noDelay (a .x .now) (a .start) (a .signal .now)) (shifted (a .x .now) (a .start) (a .lag .«pitch_int») (a .lag .«pitch_fr») (a .signal .now)) (a .len12p8))
 nc-is c = c .normalised .ensures ∙ ap ncOf (c .before .nc-sums .ensures)
 
--- the lag in the code's constant
-pitch-is : (whole f : ℕ) → ofInt binary32 (pos whole) ⊕ ofInt binary32 (pos f) ⊘ ofBits binary32 1082130432 ≡ pitchOf whole f
-unfolding ofBits ofInt round
-pitch-is whole f = refl
-
 returns : tie.Need-returns
-unfolding activation
-returns c = rw (c .is-active .ensures, nc-is (c .before .before .before), pitch-is)
+unfolding activation ofBits ofInt round
+returns c = rw (c .is-active .ensures, nc-is (c .before .before .before))
 
 pub activation-bit-spec : {M : Type 1} → statement M
 activation-bit-spec =

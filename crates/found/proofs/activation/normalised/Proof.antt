@@ -1,5 +1,10 @@
 -- `normalised` divides where there is a root above zero.
-use lib.Ieee.{ofBits}
+use mathlib.Core.Path.{_≡_}
+use mathlib.Core.Bool.{Bool, true, false, cond}
+use lib.Ieee.{Float, ofBits, lt}
+use Rattle.floats.specs.Single.{_⊘_, 0·0}
+use Rattle.root.specs.declared.Root.the-variants.{Root as found}
+use Rattle.found.specs.Activation.{overPositive}
 use borrow.Author.Needs.{needs}
 use Rattle.found.proofs.activation.normalised.Statement.{statement}
 use Rattle.found.proofs.activation.normalised.Tie as tie
@@ -17,13 +22,17 @@ returns : tie.Need-returns
 unfolding ofBits
 returns c = rw (← c .before .before .sqrt .ensures, c .enum-told .given .1)
 
+-- the quotient by a root, by the definition's test
+divided : (num v : Float) (b : Bool) → lt 0·0 v ≡ b → cond b (num ⊘ v) 0·0 ≡ overPositive num (found v)
+divided num v b e = rw e
+
 returns-2 : tie.Need-returns-2
 unfolding ofBits
-returns-2 c = rw (← c .before .before .before .before .before .sqrt .ensures, c .before .before .before .nc-denominator .given .1, c .before .if1 .taken)
+returns-2 c = rw (← c .before .before .before .before .before .sqrt .ensures, c .before .before .before .nc-denominator .given .1) (divided _ _ true (c .before .if1 .taken))
 
 returns-3 : tie.Need-returns-3
 unfolding ofBits
-returns-3 c = rw (← c .before .before .before .before .sqrt .ensures, c .before .before .nc-denominator .given .1, c .if1 .left)
+returns-3 c = rw (← c .before .before .before .before .sqrt .ensures, c .before .before .nc-denominator .given .1) (divided _ _ false (c .if1 .left))
 
 pub normalised-spec : {M : Type 1} → statement M
 normalised-spec =

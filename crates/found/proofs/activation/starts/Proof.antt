@@ -1,6 +1,6 @@
 -- `starts` makes the definition's tests in its order.
 use mathlib.Core.Path.{_≡_}
-use mathlib.Core.Bool.{true, _||_}
+use mathlib.Core.Bool.{true, false, _||_}
 use mathlib.Core.Logic.{⊎-elim}
 use lib.Ieee.{lt, ofBits, round}
 use Rattle.floats.specs.Single.{decimal}
@@ -15,11 +15,15 @@ high c = ⊎-elim (λ w. rw (w .taken)) (λ w. rw (w .0 .left, w .2 .taken)) (c 
 
 returns : tie.Need-returns
 unfolding starts ofBits round
-returns c = rw (high (c .before .before), c .if3 .taken)
+returns c =
+    let last : lt (decimal 94 2) (c .before .before .before .args .memory .«mem_nc») ≡ true = c .if3 .taken in
+    rw (high (c .before .before), last)
 
 returns-2 : tie.Need-returns-2
 unfolding starts ofBits round
-returns-2 c = rw (high (c .before .before), c .if3 .left)
+returns-2 c =
+    let last : lt (decimal 94 2) (c .before .before .before .args .memory .«mem_nc») ≡ false = c .if3 .left in
+    rw (high (c .before .before), last)
 
 returns-3 : tie.Need-returns-3
 unfolding starts ofBits round

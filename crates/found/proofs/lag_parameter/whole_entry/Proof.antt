@@ -1,11 +1,14 @@
 -- `whole_entry` looks at one correlation a turn.
-use Prim.Native.Nat.{_-_, _≤_}
+use Prim.Native.Nat.{ℕ, _+_, _-_, _≤_}
 use mathlib.Core.Path.{_≡_, refl, _∙_}
+use mathlib.Core.Bool.{Bool, true, false, cond}
+use mathlib.Core.List.{List}
 use mathlib.Core.Logic.{⊎-elim}
 use native.Mathlib.Numerals.{add-one}
 use native.Mathlib.Omega.{arith}
 use lib.ListN.{length}
-use lib.Ieee.{ofBits}
+use lib.Ieee.{Float, lt, ofBits}
+use Rattle.floats.specs.Single.{at}
 use Rattle.found.specs.LagParameter.{wholeSearch}
 use borrow.Author.Needs.{needs}
 use Rattle.found.proofs.lag_parameter.whole_entry.Statement.{statement}
@@ -52,11 +55,19 @@ add-n c = search needs
 loop-less : tie.Need-loop-less Inv-loop μ-loop
 loop-less c = search needs
 
-loop-again : tie.Need-loop-again Inv-loop μ-loop
+-- the best after one entry more, by the definition's test
+moved : (r : List Float) (n : ℕ) (b : Bool) → lt (wholeSearch r n .value) (at r (n + 4)) ≡ b →
+    wholeSearch r (n + 1) ≡ cond b (record { place = n + 4; value = at r (n + 4) }) (wholeSearch r n)
 unfolding wholeSearch
-loop-again c = let was = c .before .before .before .loop .inv in
-    ⊎-elim (λ w. (search needs, refl, rw (add-one, ← was .3, w .0 .taken) (w .3), rw (add-one, ← was .3, w .0 .taken) (w .2)))
-    (λ w. (search needs, refl, rw (add-one, ← was .3, w .0 .left) (w .2 ∙ was .2), rw (add-one, ← was .3, w .0 .left) (w .1)))
+moved r n b e = rw (add-one, e)
+
+loop-again : tie.Need-loop-again Inv-loop μ-loop
+loop-again c =
+    let was = c .before .before .before .loop .inv in
+    let r = c .before .before .before .before .args .r-12p8 .now in
+    let n = c .before .before .before .loop .n in
+    ⊎-elim (λ w. let next = moved r n true (rw (← was .3) (w .0 .taken)) in (search needs, refl, rw next (w .3), rw next (w .2)))
+    (λ w. let next = moved r n false (rw (← was .3) (w .0 .left)) in (search needs, refl, rw next (w .2 ∙ was .2), rw next (w .1 ∙ was .3)))
     (c .if1 .came)
 
 returns : tie.Need-returns Inv-loop μ-loop

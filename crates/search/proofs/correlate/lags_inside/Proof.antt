@@ -12,33 +12,33 @@ use Rattle.search.proofs.correlate.lags_inside.Tie as tie
 
 returns : tie.Need-returns
 unfolding lagsInside
-returns c = rw (lt-leb _ _ (c .if1 .taken))
+returns c = rw (lt-leb 8 _ (c .if1 .taken))
 
 returns-2 : tie.Need-returns-2
 unfolding lagsInside
-returns-2 c = rw (le-leb _ _ (c .before .if1 .left), lt-leb _ _ (c .if2 .taken))
+returns-2 c = rw (le-leb 8 _ (c .before .if1 .left), lt-leb _ 17 (c .if2 .taken))
 
 returns-3 : tie.Need-returns-3
 unfolding lagsInside
 returns-3 c =
     let a = c .before .before .before .args in
-    rw (le-leb _ _ (c .before .before .if1 .left), le-leb _ _ (c .before .if2 .left), lt-leb (a .start + a .len) (a .long) (omega arith))
+    rw (le-leb 8 _ (c .before .before .if1 .left), le-leb _ 17 (c .before .if2 .left), lt-leb (a .start + a .len) (a .long) (omega arith))
 
 returns-4 : tie.Need-returns-4
 unfolding lagsInside
 returns-4 c =
     let a = c .before .before .before .before .args in
-    rw (le-leb _ _ (c .before .before .before .if1 .left), le-leb _ _ (c .before .before .if2 .left), lt-leb (a .start + a .len) (a .long) (omega arith))
+    rw (le-leb 8 _ (c .before .before .before .if1 .left), le-leb _ 17 (c .before .before .if2 .left), lt-leb (a .start + a .len) (a .long) (omega arith))
 
 returns-5 : tie.Need-returns-5
 unfolding lagsInside
 returns-5 c =
     let a = c .before .before .before .before .before .args in
     rw (
-      le-leb _ _ (c .before .before .before .before .if1 .left),
-      le-leb _ _ (c .before .before .before .if2 .left),
+      le-leb 8 _ (c .before .before .before .before .if1 .left),
+      le-leb _ 17 (c .before .before .before .if2 .left),
       le-leb (a .start + a .len) (a .long) (omega arith),
-      lt-leb _ _ (c .if5 .taken),
+      lt-leb 1 _ (c .if5 .taken),
     )
 
 returns-6 : tie.Need-returns-6
@@ -46,10 +46,10 @@ unfolding lagsInside
 returns-6 c =
     let a = c .before .before .before .before .before .before .args in
     rw (
-      le-leb _ _ (c .before .before .before .before .before .if1 .left),
-      le-leb _ _ (c .before .before .before .before .if2 .left),
+      le-leb 8 _ (c .before .before .before .before .before .if1 .left),
+      le-leb _ 17 (c .before .before .before .before .if2 .left),
       le-leb (a .start + a .len) (a .long) (omega arith),
-      le-leb _ _ (c .before .if5 .left),
+      le-leb 1 _ (c .before .if5 .left),
       lt-leb (a .from + a .count) (a .start + 1) (omega arith),
     )
 
@@ -63,10 +63,10 @@ unfolding lagsInside
 returns-7 c =
     let a = c .before .before .before .before .before .before .args in
     rw (
-      le-leb _ _ (c .before .before .before .before .before .if1 .left),
-      le-leb _ _ (c .before .before .before .before .if2 .left),
+      le-leb 8 _ (c .before .before .before .before .before .if1 .left),
+      le-leb _ 17 (c .before .before .before .before .if2 .left),
       le-leb (a .start + a .len) (a .long) (omega arith),
-      le-leb _ _ (c .before .if5 .left),
+      le-leb 1 _ (c .before .if5 .left),
     )
     (last-test (a .count) (a .start) (a .from) (leb (a .count - 1) (a .start - a .from)) (omega arith) (omega arith) refl)
 

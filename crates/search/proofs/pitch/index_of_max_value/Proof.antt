@@ -1,10 +1,13 @@
 -- `index_of_max_value` looks at one entry a turn.
 use mathlib.Core.Logic.{⊎-elim}
 use native.Mathlib.Omega.{arith}
-use Prim.Native.Nat.{_≤_, _-_}
+use Prim.Native.Nat.{ℕ, _≤_, _-_, _+_}
 use mathlib.Core.Path.{_≡_, refl}
+use mathlib.Core.Bool.{Bool, true, false, cond}
+use mathlib.Core.List.{List}
 use native.Mathlib.Numerals.{add-one}
 use lib.ListN.{length}
+use lib.Ieee.{Float, lt}
 use Rattle.floats.specs.Single.{at}
 use Rattle.search.specs.Pitch.{searched}
 use borrow.Author.Needs.{needs}
@@ -46,11 +49,18 @@ add-n c = search needs
 loop-less : tie.Need-loop-less Inv-loop μ-loop
 loop-less c = search needs
 
-loop-again : tie.Need-loop-again Inv-loop μ-loop
+-- where the search stands after one entry more, by the definition's test
+moved : (s : List Float) (n : ℕ) (b : Bool) → lt (at s (searched s n)) (at s n) ≡ b → searched s (n + 1) ≡ cond b n (searched s n)
 unfolding searched
-loop-again c = let was = c .before .before .before .loop .inv in
-    ⊎-elim (λ w. (search needs, refl, rw (add-one, ← was .2, ← was .3, w .0 .taken) (w .3), cc))
-    (λ w. (search needs, refl, rw (add-one, ← was .2, ← was .3, w .0 .left) (w .2), cc))
+moved s n b e = rw (add-one, e)
+
+loop-again : tie.Need-loop-again Inv-loop μ-loop
+loop-again c =
+    let was = c .before .before .before .loop .inv in
+    let s = c .before .before .before .before .before .before .args .slice .now in
+    let n = c .before .before .before .loop .n in
+    ⊎-elim (λ w. (search needs, refl, rw (moved s n true (rw (← was .2, ← was .3) (w .0 .taken))) (w .3), cc))
+    (λ w. (search needs, refl, rw (moved s n false (rw (← was .2, ← was .3) (w .0 .left)), ← was .2) (w .2), cc))
     (c .if2 .came)
 
 returns-2 : tie.Need-returns-2 Inv-loop μ-loop
