@@ -91,8 +91,8 @@ static float *ears_frame(const struct side *sides)
 {
     nabiteke_pitch left_pitch = {sides[0].active, sides[0].index, sides[0].active};
     nabiteke_pitch right_pitch = {sides[1].active, sides[1].index, sides[1].active};
-    nabiteke_answers answers = nabiteke_decoder_frame_both(&left, &right, &rows, left_pitch, right_pitch,
-                                                           sides[0].nbits, ears_buffer, 2 * frame);
+    nabiteke_ear_answers answers = nabiteke_decoder_frame_both(&left, &right, &rows, left_pitch, right_pitch,
+                                                               sides[0].nbits, ears_buffer, 2 * frame);
     demand_done(answers.left);
     demand_done(answers.right);
     return ears_buffer;

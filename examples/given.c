@@ -1,7 +1,8 @@
 /*
  * Stands in for our archive where an example's expected output is made: samples and pitches are the given Rust's,
  * through the C face of bench/rust. What the Rust does not have (answers 1, 2, 5, 6 and 9, the settled report) is
- * written here once more, as far as the examples need it. The Rust has the published rows within itself and takes no others.
+ * written here once more, as far as the examples need it. The Rust has the published rows within itself and takes no
+ * others.
  */
 #include "nabiteke.h"
 #include <stdio.h>
@@ -70,9 +71,10 @@ static uint32_t judge(const uint32_t *numbers, size_t sample_count, uint32_t nbi
 uint32_t nabiteke_decoder_start_(uint32_t *numbers, float *kept, float *inputs, float *outputs, uint32_t rate,
                                  uint32_t duration)
 {
+    uint32_t answer;
     (void)kept, (void)inputs, (void)outputs;
     numbers[SETTLED] = 0;
-    uint32_t answer = start(numbers, rust_decoder_start, rate, duration);
+    answer = start(numbers, rust_decoder_start, rate, duration);
     numbers[LIMIT] = duration == 10000 ? 3 : 4;
     return answer;
 }

@@ -53,7 +53,7 @@ int main(void)
     for (frame = 0; frame < FRAMES; frame++) {
         const nabiteke_pitch left_pitch = pitches[frame][0], right_pitch = pitches[frame][1];
         float samples[2 * MAX_FRAME], left_samples[MAX_FRAME], right_samples[MAX_FRAME];
-        nabiteke_answers answers;
+        nabiteke_ear_answers answers;
         size_t n;
 
         /* Left and right in turn. Silence, with no pitch, stands in for the frame that the right ear lost. */

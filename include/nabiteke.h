@@ -6,10 +6,13 @@
  * How to use it
  *
  *   Keep a nabiteke_decoder or a nabiteke_encoder for each stream, start it, then make one call a frame.
- *   Every start, frame and loss mark, and the writing and reading of a pitch, answers with a number of enum
- *   nabiteke_answer, NABITEKE_DONE when all went well. For the two ears of a headset keep a nabiteke_decoder each, and
- *   make one call a frame for both.
+ *   Every start, frame, loss mark and lookup, and the writing and reading of a pitch, answers with a number of enum
+ *   nabiteke_answer, NABITEKE_DONE when all went well; nabiteke_answer_text puts it into words. For the two ears of a
+ *   headset keep a nabiteke_decoder each, and make one call a frame for both.
  *   nabiteke_published.h has the standard's coefficients, which the frame calls are lent.
+ *
+ *   An encoder takes 16-bit PCM. A decoder takes floats, by custom on the same scale (full scale is +-32768); any
+ *   other scale works as well, since the filter is linear, as long as no sample lies beyond +-1048576.
  *
  *   Flags are 0 for no and anything else for yes. Rates are in Hz: 8000, 16000, 24000, 32000, 44100 or 48000.
  *   44100 is treated as 48000 throughout: frames, coefficients and answers are the same; but the two ears of one call
@@ -23,23 +26,25 @@
  *
  * What the caller owes
  *
- *   No value of a sample, a coefficient, a byte, a struct or a number but a count can do harm. To break one of these
- *   can, and no call can see it:
+ *   No value of a sample, a coefficient, a byte, a struct or a number can do harm, except a wrong count. A caller that
+ *   breaks one of these rules can do harm, and no call can notice it:
  *   - a pointer is never NULL, and what it points to is there: a count says how many entries an array has;
  *   - floats and structs are aligned to 4 bytes, 16-bit samples to 2, a size_t to 8;
- *   - what a call writes (its struct, or the two structs of two ears, a decoder's samples, an encoder's record, a pitch
- *     or its bytes, a size_t) overlaps nothing else that it is lent;
- *   - two calls on one struct, or on bytes of which one writes, do not run at the same time.
- *   And floating point is as a program starts with it: rounding to nearest, subnormal numbers kept, no exception
- *   trapped (on x86-64 an MXCSR of 0x1f80). Audio hosts often have subnormals flushed (FTZ, DAZ): set that back for
- *   the call, or it gives other bits than are proved.
+ *   - what a call writes (its struct, or the structs of both ears, a decoder's samples, an encoder's record, a pitch or
+ *     its bytes, a lag, what is told, a size_t) overlaps nothing else that it is lent;
+ *   - no two calls run at the same time on one struct, or on the same bytes where one of them writes.
+ *   And floating point must be as a C program usually starts with it: rounding to nearest, subnormal numbers kept, no
+ *   exception trapped (on x86-64 an MXCSR of 0x1f80). Audio hosts often flush subnormals (FTZ, DAZ), and a program
+ *   linked with gcc's -ffast-math starts with them flushed: undo that around the call, or it gives other bits than are
+ *   proved.
  *
  * What a refused call leaves
  *
- *   A refused frame or loss mark changes nothing: the struct and the samples keep their bits (of a NaN's payload this
- *   is tested, not proved), as do those of a refused ear while the other goes on; and an encoder's record says absent,
- *   0 bits. A refused start leaves the cleared state of 48000 Hz, 10000 us. A refused writing of a pitch changes no byte
- *   and says 0; a refused reading gives absent and 0.
+ *   A refused frame or loss mark changes nothing: the struct and the samples keep their bits (of a NaN's payload
+ *   this is tested, not proved), as do those of a refused ear while the other goes on; and an encoder's record says
+ *   absent, 0 bits. A refused start leaves the cleared state of 48000 Hz, 10000 us. A refused writing of a pitch
+ *   changes no byte and says 0; a refused reading gives absent and 0. A refused lookup, of a lag or of what a frame
+ *   will do, gives zeros.
  *   A struct that was never started is no danger: one of zero bytes is answered with NABITEKE_UNFIT, and one of
  *   any other bytes is answered with NABITEKE_UNFIT or works like a started one with that past.
  *
@@ -50,8 +55,11 @@
  *
  * Stack
  *
- *   No call takes more than NABITEKE_STACK bytes of stack, arguments included: measured at every rate and duration and
- *   in all five transitions, of both ears in every pair of them and with one ear refused (examples/tests/stack.c).
+ *   No call takes more than NABITEKE_STACK bytes of stack, arguments included: measured at every rate and duration
+ *   and in all five transitions, of both ears in every pair of them and with one ear refused
+ *   (examples/tests/stack.c). With a caller compiled without optimisation the most was 13084 bytes in a static
+ *   program, and 16072 in a dynamic one whose call is the first to use memcpy and has to look it up (lazy binding);
+ *   the lookup's share depends on the processor and the C library, so there is room to spare.
  */
 #ifndef NABITEKE_H
 #define NABITEKE_H
@@ -59,22 +67,24 @@
 #include <stddef.h>
 #include <stdint.h>
 
-#define NABITEKE_VERSION_MAJOR 1
-#define NABITEKE_VERSION_MINOR 3
+#define NABITEKE_VERSION_MAJOR 2
+#define NABITEKE_VERSION_MINOR 0
 #define NABITEKE_VERSION_PATCH 0
-/* One number, which rises from version to version: 10300 is 1.3.0. Since 1.1.0 a decoder at 44100 gives what one at
-   48000 gives; since 1.2.0 a pitch can be packed; since 1.3.0 both ears can be decoded in one call. */
+/* One number, which rises from version to version: 20000 is 2.0.0. Since 1.1.0 a decoder at 44100 gives what one at
+   48000 gives; since 1.2.0 a pitch can be packed; since 1.3.0 both ears can be decoded in one call. What 2.0.0 changed
+   for a caller: struct nabiteke_answers is now called nabiteke_ear_answers. It added nabiteke_version,
+   nabiteke_answer_text, nabiteke_lag_of and nabiteke_decoder_told. */
 #define NABITEKE_VERSION (NABITEKE_VERSION_MAJOR * 10000 + NABITEKE_VERSION_MINOR * 100 + NABITEKE_VERSION_PATCH)
 
-#define NABITEKE_STACK 14336
+#define NABITEKE_STACK 20480
 
 #ifdef __cplusplus
 extern "C" {
 #endif
 
 /* What a call answers. Checked in this order: a start 1, 2; a frame 9, 3, 4, 5, 6, and a decoder's then 7, 8;
-   a loss mark 9; a frame of both ears 13 for both, then for each ear what a decoder's frame checks; the writing of a
-   pitch 7, 15; its reading 15, 12. */
+   a loss mark 9; a frame of both ears 13 for both, then for each ear what a decoder's frame checks; what a frame
+   will do 9, 6, 7; the lag of an index 1, 7; the writing of a pitch 7, 15; its reading 15, 12. */
 enum nabiteke_answer {
     NABITEKE_DONE = 0,         /* done */
     NABITEKE_RATE = 1,         /* the rate is not one of the six */
@@ -117,10 +127,28 @@ typedef struct nabiteke_pitch {
 } nabiteke_pitch;
 
 /* What a frame of both ears answers, each ear by itself. */
-typedef struct nabiteke_answers {
+typedef struct nabiteke_ear_answers {
     uint32_t left;
     uint32_t right;
-} nabiteke_answers;
+} nabiteke_ear_answers;
+
+/* The lag of a pitch index at a rate, and how it was rounded. */
+typedef struct nabiteke_lag {
+    uint32_t whole;   /* whole samples */
+    uint32_t quarter; /* and quarters of a sample, 0 to 3 */
+    int32_t rounding; /* eighths of a quarter by which rounding made it longer, 1 to 4, or shorter, -1 to -3 */
+} nabiteke_lag;
+
+/* What a frame will do. Flags are 0 or 1. */
+typedef struct nabiteke_told {
+    uint32_t transition; /* 1 stays inactive, 2 becomes active, 3 becomes inactive, 4 same lag, 5 another lag */
+    uint32_t active;     /* whether it has a lag; where not, whole, quarter and rounding are 0 */
+    uint32_t whole;
+    uint32_t quarter;
+    int32_t rounding;
+    uint32_t gain_on; /* whether it is active and its gain is not off; where not, row is 0 */
+    uint32_t row;     /* the gain's row, 0 to 3 */
+} nabiteke_told;
 
 /* What an encoder's frame gives. Flags are 0 or 1; index and active are 0 where no pitch is present. */
 typedef struct nabiteke_record {
@@ -130,8 +158,8 @@ typedef struct nabiteke_record {
 
 /*
  * The coefficients that a decoder's frame call is lent: four rows of numerators, by gain row 0 to 3, one after
- * another, and four rows of denominators, by quarter 0 to 3. nabiteke_numerator_count and nabiteke_denominator_count say
- * how many entries a rate has.
+ * another, and four rows of denominators, by quarter 0 to 3. nabiteke_numerator_count and nabiteke_denominator_count
+ * say how many entries a rate has.
  */
 typedef struct nabiteke_rows {
     const float *numerators;
@@ -149,6 +177,9 @@ typedef struct nabiteke_sets {
     const float *signal; /* interpolates the signal */
     size_t signal_count;
 } nabiteke_sets;
+
+/* The archive's version. A caller whose NABITEKE_VERSION is another was compiled with another archive's header. */
+uint32_t nabiteke_version(void);
 
 /* How many samples a frame has; 0 where the rate or the duration is unknown. */
 size_t nabiteke_frame_length(uint32_t rate, uint32_t duration);
@@ -170,6 +201,8 @@ void nabiteke_decoder_frame_both_(uint32_t *left_numbers, float *left_kept, floa
                                   float *samples, size_t sample_count, uint32_t *answers);
 uint32_t nabiteke_decoder_lost_(uint32_t *numbers);
 uint32_t nabiteke_decoder_settled_(const uint32_t *numbers);
+uint32_t nabiteke_decoder_told_(const uint32_t *numbers, uint32_t pitch_present, uint32_t pitch_index,
+                                uint32_t pitch_active, uint32_t nbits, uint32_t *told, int32_t *rounding);
 uint32_t nabiteke_encoder_start_(uint32_t *numbers, float *memories, float *x_s, float *x_12p8, float *x_6p4,
                                  uint32_t rate, uint32_t duration);
 uint32_t nabiteke_encoder_frame_(uint32_t *numbers, float *memories, float *x_s, float *x_12p8, float *x_6p4,
@@ -180,6 +213,28 @@ uint32_t nabiteke_encoder_frame_(uint32_t *numbers, float *memories, float *x_s,
 uint32_t nabiteke_pitch_write_(uint32_t pitch_present, uint32_t pitch_index, uint32_t pitch_active, uint8_t *bytes,
                                size_t byte_count, size_t *written);
 uint32_t nabiteke_pitch_read_(const uint8_t *bytes, size_t byte_count, uint32_t *record);
+uint32_t nabiteke_lag_of_(uint32_t rate, uint32_t index, uint32_t *lag, int32_t *rounding);
+
+/* An answer in words. */
+static inline const char *nabiteke_answer_text(uint32_t answer)
+{
+    switch (answer) {
+    case NABITEKE_DONE: return "done";
+    case NABITEKE_RATE: return "unknown rate";
+    case NABITEKE_DURATION: return "unknown frame duration";
+    case NABITEKE_ROWS: return "wrong number of coefficients";
+    case NABITEKE_COEFFICIENT: return "coefficient infinite or not a number";
+    case NABITEKE_SAMPLE_COUNT: return "wrong number of samples";
+    case NABITEKE_NBITS: return "more than 3200 bits in a frame";
+    case NABITEKE_PITCH_INDEX: return "pitch index above 511";
+    case NABITEKE_SAMPLE: return "sample out of range or not a number";
+    case NABITEKE_UNFIT: return "struct not started, or overwritten";
+    case NABITEKE_PADDING: return "bit set in the padding of a packed pitch";
+    case NABITEKE_EARS: return "ears of different rates or durations";
+    case NABITEKE_BYTE_COUNT: return "too few bytes for a packed pitch";
+    default: return "unknown answer";
+    }
+}
 
 /* Starts a decoder, or starts it anew: cleared histories, inactive, not settled. Answers 0, 1 or 2. */
 static inline uint32_t nabiteke_decoder_start(nabiteke_decoder *decoder, uint32_t rate, uint32_t duration)
@@ -205,40 +260,76 @@ static inline uint32_t nabiteke_decoder_frame(nabiteke_decoder *decoder, const n
 /*
  * Filters one frame of both ears in place. The samples of the two stand in one array, left and right in turn, and
  * sample_count counts all of them: twice the samples of a frame. Both ears share the rows and nbits; each has its own
- * state, started by itself, and its own pitch. Answers of both: 13 where the two states name different rates or
- * durations; else each ear's own 0 or 3 to 9, as for a decoder by itself, and 5 where sample_count is not twice the
- * frame's. An ear that is refused keeps its state and its samples while the other goes on.
+ * struct, started by itself, and its own pitch. One struct cannot be both ears.
+ *
+ * Answers of both: 13 where the two structs name different rates or durations; else each ear's own 0 or 3 to 9, as
+ * for a decoder by itself, and 5 where sample_count is not twice the frame's. An ear that is refused keeps its
+ * struct and its samples while the other goes on. A struct that was never started names something too: with a
+ * started one it makes the answer 13 for both, unless it happens to name the same; two structs of zero bytes are
+ * answered 9 each. A refused start leaves 48000 Hz, 10000 us, so with the other ear at another rate or duration the
+ * next frame is answered 13.
+ *
+ * To each ear this is the frame of a decoder by itself, so calls of one ear and of both may be mixed on a struct.
+ * Where only one ear's frame was lost, give both a frame all the same, with concealed samples or silence and no
+ * pitch for that ear, and then mark that ear with nabiteke_decoder_lost, so that what stood in does not count for
+ * settling. Hiding the loss is the caller's own work.
  */
-static inline nabiteke_answers nabiteke_decoder_frame_both(nabiteke_decoder *left, nabiteke_decoder *right,
-                                                           const nabiteke_rows *rows, nabiteke_pitch left_pitch,
-                                                           nabiteke_pitch right_pitch, uint32_t nbits, float *samples,
-                                                           size_t sample_count)
+static inline nabiteke_ear_answers nabiteke_decoder_frame_both(nabiteke_decoder *left, nabiteke_decoder *right,
+                                                               const nabiteke_rows *rows, nabiteke_pitch left_pitch,
+                                                               nabiteke_pitch right_pitch, uint32_t nbits,
+                                                               float *samples, size_t sample_count)
 {
     const uint32_t sides[7] = {left_pitch.present, left_pitch.index,   left_pitch.active, right_pitch.present,
                                right_pitch.index,  right_pitch.active, nbits};
     uint32_t answers[2];
+    nabiteke_ear_answers both;
     nabiteke_decoder_frame_both_(left->numbers, left->kept, left->inputs, left->outputs, right->numbers, right->kept,
                                  right->inputs, right->outputs, rows->numerators, rows->numerator_count,
                                  rows->denominators, rows->denominator_count, sides, samples, sample_count, answers);
-    nabiteke_answers both = {answers[0], answers[1]};
+    both.left = answers[0];
+    both.right = answers[1];
     return both;
 }
 
-/* Marks that frames were lost before the next one: the decoder is no longer settled. Answers 0 or 9. */
+/*
+ * What the decoder's next frame will do with this pitch and nbits, for a log: ask before the frame, with what the
+ * frame will be given. Answers 9, 6, 7 or 0, writes it to *told (all 0 where refused), and changes nothing else. A
+ * frame that is then answered 0 does what was told, and one that was told with another answer is not answered 0; the
+ * frame may still be refused for its rows or samples (3, 4, 5 or 8), and in a call of both ears with 13. For both
+ * ears ask for each.
+ */
+static inline uint32_t nabiteke_decoder_told(const nabiteke_decoder *decoder, nabiteke_pitch pitch, uint32_t nbits,
+                                             nabiteke_told *told)
+{
+    uint32_t numbers[6];
+    uint32_t answer = nabiteke_decoder_told_(decoder->numbers, pitch.present, pitch.index, pitch.active, nbits,
+                                             numbers, &told->rounding);
+    told->transition = numbers[0];
+    told->active = numbers[1];
+    told->whole = numbers[2];
+    told->quarter = numbers[3];
+    told->gain_on = numbers[4];
+    told->row = numbers[5];
+    return answer;
+}
+
+/* Marks that frames were lost: the decoder is no longer settled, and counts from the next frame on. Answers 0 or 9. */
 static inline uint32_t nabiteke_decoder_lost(nabiteke_decoder *decoder)
 {
     return nabiteke_decoder_lost_(decoder->numbers);
 }
 
 /*
- * Whether the decoder has settled. From a start: 1 exactly where it has accepted 3 inactive frames in a row (4 at 7500 us) since its
- * last start or loss mark, else 0. A frame is accepted where its call answers 0, and inactive where it has no active
- * pitch; refused frames do not count, and active frames after that row leave the report at 1.
+ * Whether the decoder has settled. From a start: 1 exactly where it has accepted 3 inactive frames in a row (4 at
+ * 7500 us) since its last start or loss mark, else 0. A frame is accepted where its call answers 0, and inactive
+ * where it has no active pitch; refused frames do not count, and active frames after that row leave the report at 1.
  *
  * What it is for: take two decoders with any pasts and the same rate, duration and coefficients. Once both have
- * accepted the same 3 inactive frames in a row (4 at 7500 us), with no start or loss mark since the first of them, they
- * give the same answers and sample bits (any NaN for any NaN) for every later frame, as long as the later frames given
- * to both are equal one by one, and until either has a start or a loss mark.
+ * accepted the same 3 inactive frames in a row (4 at 7500 us), with no start or loss mark since the first of them,
+ * they give the same answers and sample bits (any NaN for any NaN) for every later frame, as long as the later
+ * frames given to both are equal one by one, and until either has a start or a loss mark. The same holds for an ear
+ * of two headsets, where frames of both ears are equal to it only if what the ears share is equal too: rows, nbits,
+ * sample_count, and the rates and durations that both structs name.
  */
 static inline uint32_t nabiteke_decoder_settled(const nabiteke_decoder *decoder)
 {
@@ -255,7 +346,8 @@ static inline uint32_t nabiteke_encoder_start(nabiteke_encoder *encoder, uint32_
 /*
  * Finds the pitch of one frame of samples and writes it to *record. Answers 0, 3, 4, 5, 6 or 9.
  * nbits         the size of the frame in bits, at most 3200
- * near_nyquist  whether the frame's energy lies near half its rate; its pitch is then not active
+ * near_nyquist  whether nearly all of the frame's energy lies near half its rate, which an LC3 encoder detects in the
+ *               spectrum (this library does not). The pitch of such a frame is not active; 0 where nothing is known.
  */
 static inline uint32_t nabiteke_encoder_frame(nabiteke_encoder *encoder, const nabiteke_sets *sets, uint32_t nbits,
                                               const int16_t *samples, size_t sample_count, uint32_t near_nyquist,
@@ -274,11 +366,24 @@ static inline uint32_t nabiteke_encoder_frame(nabiteke_encoder *encoder, const n
 }
 
 /*
- * Packs a pitch as the recorder stores it: writes it at the beginning of bytes, of which there are byte_count, and says in
- * *written how many it took, 2 where a pitch is present and 1 where none is. The others stay as they were. Answers 0,
- * 7 or 15; refused, it changes no byte and *written is 0.
- * The form is bits, highest first: one for presence; if present, one for active and nine for the index; then zero bits to
- * the end of the byte. Present, active, 380 is EF 80; absent is 00. This is not the order of the radio's stream.
+ * The lag of a pitch index, 0 to 511, at a rate, in quarters of a sample. Answers 0, 1 or 7; refused, all of *lag is 0.
+ */
+static inline uint32_t nabiteke_lag_of(uint32_t rate, uint32_t index, nabiteke_lag *lag)
+{
+    uint32_t numbers[2];
+    uint32_t answer = nabiteke_lag_of_(rate, index, numbers, &lag->rounding);
+    lag->whole = numbers[0];
+    lag->quarter = numbers[1];
+    return answer;
+}
+
+/*
+ * Packs a pitch as the recorder stores it: writes it at the beginning of bytes, of which there are byte_count, and
+ * says in *written how many it took, 2 where a pitch is present and 1 where none is. The others stay as they were.
+ * Answers 0, 7 or 15; refused, it changes no byte and *written is 0.
+ * The form is bits, highest first: one for presence; if present, one for active and nine for the index; then zero
+ * bits to the end of the byte. Present, active, 380 is EF 80; absent is 00. This is not the order of the radio's
+ * stream.
  */
 static inline uint32_t nabiteke_pitch_write(nabiteke_pitch pitch, uint8_t *bytes, size_t byte_count, size_t *written)
 {
@@ -286,9 +391,9 @@ static inline uint32_t nabiteke_pitch_write(nabiteke_pitch pitch, uint8_t *bytes
 }
 
 /*
- * Reads the packed pitch at the beginning of bytes into *pitch and says in *used how many it took; those that follow are
- * not looked at. Answers 0, 12 or 15; refused, *pitch is absent and *used is 0. Flags are 0 or 1; index and active are 0
- * where no pitch is present. What nabiteke_pitch_write wrote reads back, and no other bytes are that pitch.
+ * Reads the packed pitch at the beginning of bytes into *pitch and says in *used how many it took; those that follow
+ * are not looked at. Answers 0, 12 or 15; refused, *pitch is absent and *used is 0. Flags are 0 or 1; index and active
+ * are 0 where no pitch is present. What nabiteke_pitch_write wrote reads back, and no other bytes are that pitch.
  */
 static inline uint32_t nabiteke_pitch_read(const uint8_t *bytes, size_t byte_count, nabiteke_pitch *pitch,
                                            size_t *used)

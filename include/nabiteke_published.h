@@ -1,7 +1,8 @@
 /*
  * The published coefficients: the rows of every rate for a decoder, the three sets for an encoder.
  * Figures of the LC3 standard (Bluetooth SIG, Low Complexity Communication Codec 1.0), as they stand in the test
- * folder of liblc3 1.1.3 (Google, Apache-2.0). Only the numbers were taken over. Made by include/make_published: do not edit.
+ * folder of liblc3 1.1.3 (Google, Apache-2.0). Only the numbers were taken over. Made by include/make_published: do not
+ * edit.
  */
 #ifndef NABITEKE_PUBLISHED_H
 #define NABITEKE_PUBLISHED_H

@@ -53,7 +53,7 @@ static void try_call(uint32_t left, uint32_t right)
     const uint32_t expected[2] = {left, right};
     static nabiteke_decoder alone[2];
     float after[ROOM], own[MAX_FRAME];
-    nabiteke_answers answers;
+    nabiteke_ear_answers answers;
     int ear;
     memcpy(alone, ears, sizeof alone);
     memcpy(after, samples, sizeof after);

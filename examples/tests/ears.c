@@ -31,7 +31,7 @@ static void compare(const nabiteke_decoder pasts[2], const nabiteke_pitch pitche
     const nabiteke_rows rows = nabiteke_published_rows(rate);
     nabiteke_decoder ears[2], alone[2];
     float samples[ROOM], expected[ROOM], given[MAX_FRAME], own[MAX_FRAME];
-    nabiteke_answers answers;
+    nabiteke_ear_answers answers;
     int ear, which[2];
     memcpy(ears, pasts, sizeof ears);
     memcpy(alone, pasts, sizeof alone);

@@ -113,7 +113,7 @@ static void try_one(uint32_t rate, uint32_t duration)
 static void both(nabiteke_decoder *ears, nabiteke_rows rows, nabiteke_pitch left, nabiteke_pitch right,
                  uint32_t nbits, float *samples, size_t count, uint32_t expected_left, uint32_t expected_right)
 {
-    const nabiteke_answers answers =
+    const nabiteke_ear_answers answers =
         nabiteke_decoder_frame_both(&ears[0], &ears[1], &rows, left, right, nbits, samples, count);
     demand(answers.left == expected_left && answers.right == expected_right, "the answers of both ears");
     both_answered[expected_left]++;
