@@ -8,6 +8,7 @@ use libc::STDOUT_FILENO;
 use std::num::wrapping_add_usize;
 ghost use mathlib.Core.Path.{_≡_};
 ghost use Rattle.io.specs.Counts.{Counts};
+ghost use Rattle.arguments.specs.Inputs.{before, passed as Inputs·passed, after};
 
 // An input that can be read, by its descriptor, or why it cannot was said.
 pub enum Opened {
@@ -94,7 +95,8 @@ pub fn close(fd: i32) {
     }
 }
 
-// Opens the input that an argument names. A directory can be opened and not read, so no bytes are read.
+// Opens the input that an argument names. A directory can be opened but not read, which reading no bytes
+// tells.
 pub fn open(argument: usize) -> Opened {
     let fd = descriptor(argument);
     if fd < 0 {
@@ -108,14 +110,16 @@ pub fn open(argument: usize) -> Opened {
     Opened::Input(fd)
 }
 
-// Writes what an argument names an input, on a line of standard output.
-pub fn write_name(argument: usize) {
-    if argument < os::arg_count() {
-        let mut path = io::buffer();
-        let length = os::arg(argument, &mut path);
-        io::write_all(STDOUT_FILENO, &path[..length]);
-        outcome::write_out(b"\n");
+// Writes the argument that names an input, if it is there, on a line of standard output. Answers whether
+// that took it.
+pub fn write_name(argument: usize) -> bool {
+    if argument >= os::arg_count() {
+        return true;
     }
+    let mut path = io::buffer();
+    let length = os::arg(argument, &mut path);
+    io::write_all(STDOUT_FILENO, &path[..length]);
+    outcome::write_out(b"\n")
 }
 
 // The argument after those of the inputs. Where there are none, the first stands for standard input.
@@ -124,34 +128,42 @@ pub fn end() -> usize {
     if count < 2 { 2 } else { count }
 }
 
-// Before the first input.
-pub fn first() -> Inputs {
-    Inputs {
-        argument: 1,
-        fd: STDIN_FILENO,
-        is_open: false,
-    }
-}
-
-// At the argument after one.
-fn after(argument: usize) -> Inputs {
-    Inputs {
-        argument: wrapping_add_usize(argument, 1),
-        fd: STDIN_FILENO,
-        is_open: false,
-    }
-}
-
-// Opens the input.
-fn begin(argument: usize) -> Next
-    ensures { λ r. ⌜ r .count ≡ 0 ⌝ }
+// Before the input that an argument names.
+fn at(argument: usize) -> Inputs
+    ensures { λ r. ⌜ r ≡ before argument ⌝ }
 {
+    Inputs {
+        argument,
+        fd: STDIN_FILENO,
+        is_open: false,
+    }
+}
+
+// Before the first input.
+pub fn first() -> Inputs
+    ensures { λ r. ⌜ r ≡ before 1 ⌝ }
+{
+    at(1)
+}
+
+// Before the input after one.
+fn passed(inputs: Inputs) -> Inputs
+    ensures { λ r. ⌜ r ≡ Inputs·passed inputs ⌝ }
+{
+    at(wrapping_add_usize(inputs.argument, 1))
+}
+
+// Opens the input that is next.
+fn begin(inputs: Inputs) -> Next
+    ensures { λ r. ⌜ (r .count ≡ 0) × (r .inputs ≡ after inputs (r .inputs .fd) (r .event)) ⌝ }
+{
+    let argument = inputs.argument;
     let opened = open(argument);
     let Opened::Input(fd) = opened else {
         return Next {
             event: Event::Failed,
             count: 0,
-            inputs: after(argument),
+            inputs: passed(inputs),
         };
     };
     Next {
@@ -165,21 +177,18 @@ fn begin(argument: usize) -> Next
     }
 }
 
-// Closes the input after its end, or where it cannot be read.
-fn finish(inputs: Inputs, event: Event) -> Next
-    ensures { λ r. ⌜ r .count ≡ 0 ⌝ }
+// Closes the input that is open.
+fn finish(inputs: Inputs) -> Inputs
+    ensures { λ r. ⌜ r ≡ Inputs·passed inputs ⌝ }
 {
     close(inputs.fd);
-    Next {
-        event,
-        count: 0,
-        inputs: after(inputs.argument),
-    }
+    passed(inputs)
 }
 
 // Goes on to the next event. A piece of an input is put at the start of the buffer.
 pub fn advance(inputs: Inputs, buffer: &mut [u8]) -> Next
     ensures { λ r. ⌜ Counts (r .count) (now (buffer .exit)) ⌝ }
+    ensures { λ r. ⌜ r .inputs ≡ after inputs (r .inputs .fd) (r .event) ⌝ }
 {
     let argument = inputs.argument;
     if !inputs.is_open {
@@ -190,15 +199,23 @@ pub fn advance(inputs: Inputs, buffer: &mut [u8]) -> Next
                 inputs,
             };
         }
-        return begin(argument);
+        return begin(inputs);
     }
     let got = read(argument, inputs.fd, buffer);
     if got < 0 {
-        return finish(inputs, Event::Failed);
+        return Next {
+            event: Event::Failed,
+            count: 0,
+            inputs: finish(inputs),
+        };
     }
     let count = io::count(got, buffer);
     if count == 0 {
-        return finish(inputs, Event::Ended);
+        return Next {
+            event: Event::Ended,
+            count: 0,
+            inputs: finish(inputs),
+        };
     }
     Next {
         event: Event::Piece,

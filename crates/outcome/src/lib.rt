@@ -64,8 +64,8 @@ pub fn fail(program: &[u8], what: &[u8]) {
     failed();
 }
 
-// Says that standard output took no more, right after the write that failed. Where nobody reads a pipe
-// any more there is nothing to say.
+// Says that standard output took no more, right after the write that failed. Where nobody reads the pipe
+// any more that is a failure too, but nobody is told.
 fn fail_output(program: &[u8]) {
     if os::errno() == libc::EPIPE {
         failed();

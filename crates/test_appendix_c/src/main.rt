@@ -19,8 +19,9 @@ use run::compare;
 fn compare_named(argument: usize) {
     let opened = open(argument);
     if let Opened::Input(fd) = opened {
-        write_name(argument);
-        compare(fd);
+        if write_name(argument) {
+            compare(fd);
+        }
         close(fd);
     }
 }

@@ -54,8 +54,9 @@ fn meaning(argument: usize) -> Meant {
 fn compare_named(end: End, argument: usize) {
     let opened = open(argument);
     if let Opened::Input(fd) = opened {
-        write_name(argument);
-        compare(end, fd);
+        if write_name(argument) {
+            compare(end, fd);
+        }
         close(fd);
     }
 }

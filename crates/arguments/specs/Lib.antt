@@ -1,0 +1,2 @@
+-- The inputs of a program, one after the other.
+pub mod Inputs
