@@ -6,7 +6,7 @@ use Rattle.lag.proofs.index.unscaled_lag.Statement.{statement}
 use Rattle.lag.proofs.index.unscaled_lag.Tie as tie
 
 returns : tie.Need-returns
-returns c = rw (lt-leb _ _ (c .if1 .taken))
+returns c = rw (lt-leb _ 511 (c .if1 .taken))
 
 add-t3 : tie.Need-add-t3
 add-t3 c = search needs
@@ -16,7 +16,7 @@ cast-t4 c = search needs
 
 returns-2 : tie.Need-returns-2
 unfolding quarters
-returns-2 c = rw (le-leb _ _ (c .before .if1 .left), le-leb _ _ (c .if2 .taken))
+returns-2 c = rw (le-leb _ 511 (c .before .if1 .left), le-leb _ 379 (c .if2 .taken))
 
 mul-t5 : tie.Need-mul-t5
 mul-t5 c = search needs
@@ -29,7 +29,7 @@ cast-t7 c = search needs
 
 returns-3 : tie.Need-returns-3
 unfolding quarters
-returns-3 c = rw (le-leb _ _ (c .before .before .if1 .left), lt-leb _ _ (c .before .if2 .left), le-leb _ _ (c .if3 .taken))
+returns-3 c = rw (le-leb _ 511 (c .before .before .if1 .left), lt-leb _ 379 (c .before .if2 .left), le-leb _ 439 (c .if3 .taken))
 
 mul-t8 : tie.Need-mul-t8
 mul-t8 c = search needs
@@ -42,7 +42,7 @@ cast-t10 c = search needs
 
 returns-4 : tie.Need-returns-4
 unfolding quarters
-returns-4 c = rw (le-leb _ _ (c .before .before .if1 .left), lt-leb _ _ (c .before .if2 .left), lt-leb _ _ (c .if3 .left))
+returns-4 c = rw (le-leb _ 511 (c .before .before .if1 .left), lt-leb _ 379 (c .before .if2 .left), lt-leb _ 439 (c .if3 .left))
 
 pub unscaled-lag-spec : {M : Type 1} → statement M
 unscaled-lag-spec =
