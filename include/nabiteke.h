@@ -270,7 +270,7 @@ static inline uint32_t nabiteke_decoder_frame(nabiteke_decoder *decoder, const n
  * next frame is answered 13.
  *
  * To each ear this is the frame of a decoder by itself, so calls of one ear and of both may be mixed on a struct.
- * Where only one ear's frame was lost, give both a frame all the same, with concealed samples or silence and no
+ * Where only one ear's frame was lost, give both a frame anyway, with concealed samples or silence and no
  * pitch for that ear, and then mark that ear with nabiteke_decoder_lost, so that what stood in does not count for
  * settling. Hiding the loss is the caller's own work.
  */
