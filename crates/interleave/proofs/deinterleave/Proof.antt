@@ -34,8 +34,8 @@ loop-again c =
       search needs,
       simp length-set (omega arith),
       simp length-set (omega arith),
-      rw (c .before .before .before .loop .inv .3, ← at-second i (a .samples .now)) (one-pasted (a .left .now) (lefts (a .samples .now)) (a .left-at) i (search needs) (omega arith)),
-      rw (c .before .before .before .loop .inv .4, ← at-right i (a .samples .now)) (one-pasted (a .right .now) (rights (a .samples .now)) (a .right-at) i (search needs) (omega arith)),
+      rw (c .before .before .before .loop .inv .3) (rw (at-second i (a .samples .now)) at (one-pasted (a .left .now) (lefts (a .samples .now)) (a .left-at) i (search needs) (omega arith))),
+      rw (c .before .before .before .loop .inv .4) (rw (at-right i (a .samples .now)) at (one-pasted (a .right .now) (rights (a .samples .now)) (a .right-at) i (search needs) (omega arith))),
     )
 
 same-length : tie.Need-same-length Inv-loop μ-loop

@@ -38,8 +38,8 @@ loop-again c =
     let right = getD-take (a .nf) (drop (a .right-at) (a .right .now)) i nan (search needs) ∙ getD-drop (a .right-at) (a .right .now) i nan in (
       search needs,
       simp length-set (omega arith),
-      rw (c .before .before .before .loop .inv .2, ← left, ← right)
-          (pair-pasted l r (a .nf) (part-long (a .nf) (a .left-at) (a .left .now) (s .1)) (part-long (a .nf) (a .right-at) (a .right .now) (s .2)) (a .samples .now) i (s .0) (search needs)),
+      rw (c .before .before .before .loop .inv .2)
+          (rw (left, right) at (pair-pasted l r (a .nf) (part-long (a .nf) (a .left-at) (a .left .now) (s .1)) (part-long (a .nf) (a .right-at) (a .right .now) (s .2)) (a .samples .now) i (s .0) (search needs))),
     )
 
 returns : tie.Need-returns Inv-loop μ-loop

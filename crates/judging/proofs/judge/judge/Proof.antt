@@ -1,4 +1,6 @@
 -- `judge` makes the definition's tests in their order.
+use mathlib.Core.Path.{_≡_}
+use Rattle.floats.specs.Single.{allInRange}
 use Rattle.control.proofs.Tested.{failed, passed}
 use Rattle.judging.proofs.LentFirst.{judged-lent}
 use borrow.Author.Needs.{needs}
@@ -28,12 +30,13 @@ returns-3 c =
     let side = c .before .before .before .before .before in
     let at = side .before .before .before in
     let a = at .before .before .before .before .args in
+    let inside : c .before .all-in-range .result ≡ allInRange (a .samples .now) = c .before .all-in-range .ensures in
     rw (
       judged-lent (a .marks) (a .config) (a .numerators .now) (a .denominators .now) (a .side) (a .samples .now) _ (at .judge-lent .ensures),
       side .before .enum-told .given .1,
       ← side .judge-side .ensures,
       c .before .before .before .plan .given .1,
-      failed (c .before .all-in-range .ensures) (c .if1 .taken),
+      failed inside (c .if1 .taken),
     )
 
 returns-4 : tie.Need-returns-4
@@ -41,12 +44,13 @@ returns-4 c =
     let side = c .before .before .before .before .before in
     let at = side .before .before .before in
     let a = at .before .before .before .before .args in
+    let inside : c .before .all-in-range .result ≡ allInRange (a .samples .now) = c .before .all-in-range .ensures in
     rw (
       judged-lent (a .marks) (a .config) (a .numerators .now) (a .denominators .now) (a .side) (a .samples .now) _ (at .judge-lent .ensures),
       side .before .enum-told .given .1,
       ← side .judge-side .ensures,
       c .before .before .before .plan .given .1,
-      passed (c .before .all-in-range .ensures) (c .if1 .left),
+      passed inside (c .if1 .left),
     )
 
 pub judge-spec : {M : Type 1} → statement M
