@@ -127,7 +127,7 @@ def wrong(dice, due):
 
 
 def spoiled(dice, due):
-    """A good line with one foreign byte put in, or put in the place of another."""
+    """A good line with one foreign byte put in, or put in place of another."""
     foreign = [byte for byte in range(256) if byte not in b"\n-0123456789"]
     line = b"%d\t%s" % (due, good_body(dice))
     place = dice.between(0, len(line))

@@ -31,7 +31,7 @@ gainRow (On g row) = row
 abbrev pub rowOfSet : ℕ → ℕ → List Float → List Float
 rowOfSet entries r set = take entries (drop (r * entries) set)
 
--- a gain times each entry of a row, in the place of the first of so many 0.0
+-- a gain times each entry of a row, in place of the first of so many 0.0
 abbrev pub scaled : ℕ → Float → List Float → List Float
 scaled size gain row = map (λ e. gain ⊗ e) row ++ drop (length row) (replicate size 0·0)
 

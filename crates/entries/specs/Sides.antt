@@ -1,4 +1,4 @@
--- Side information as text: pitch, active and nbits, parted by tabs.
+-- Side information as text: pitch, active and nbits, separated by tabs.
 use Prim.Native.Nat.{ℕ, _+_}
 use mathlib.Core.Bool.{Bool, true, false, cond}
 use mathlib.Core.List.{List}

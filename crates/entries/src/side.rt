@@ -1,4 +1,4 @@
-// The side information of a frame as a booth writes it: pitch, active and nbits, parted by tabs.
+// The side information of a frame as a booth writes it: pitch, active and nbits, separated by tabs.
 use judging::plan::SideInfo;
 use lag::pitch::PitchRecord;
 use lag::pitch::Present;

@@ -27,6 +27,6 @@ unfoldable pub grow : (List Float → Float) → List Float → ℕ → List Flo
 grow f ys zero = ys
 grow f ys (suc n) = grow f ys n ++ (f (grow f ys n) ∷ [])
 
--- the line y with n outputs in the place of its samples from `from` on
+-- the line y with n outputs in place of its samples from `from` on
 unfoldable pub grown : (List Float → Float) → List Float → ℕ → ℕ → List Float
 grown f y from n = grow f (take from y) n ++ drop (from + n) y

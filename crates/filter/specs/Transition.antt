@@ -38,7 +38,7 @@ caseDeactivated old fade x past = grow (faded Out (length past) fade old x) past
 unfoldable pub casePitchKept : Filter → List Float → List Float → List Float
 casePitchKept new x past = grow (steady new x) past (length x - length past)
 
--- 5: z as in case 3 for the fade; then y = z − G·f, where G is F with z in the place of x, and the true earlier y; after the fade x − F
+-- 5: z as in case 3 for the fade; then y = z − G·f, where G is F with z in place of x, and the true earlier y; after the fade x − F
 unfoldable pub casePitchChanged : Filter → Filter → ℕ → List Float → List Float → List Float
 casePitchChanged old new fade x past =
     let z = grow (faded Out (length past) fade old x) past fade in

@@ -1,4 +1,4 @@
-// The fields of a line: parted by tabs, each a dash or a number.
+// The fields of a line: separated by tabs, each a dash or a number.
 ghost use mathlib.Core.Path.{_≡_};
 ghost use Rattle.lines.specs.Fields.{tabAt, numberOf, isDash, fieldOf};
 

@@ -1,3 +1,3 @@
-// Tab-parted text that is read: the fields of a line, and the line that is being read.
+// Tab-separated text that is read: the fields of a line, and the line that is being read.
 pub mod field;
 pub mod held;

@@ -1,5 +1,5 @@
 -- TWO FRAMES ARE NOT ENOUGH. `two-frames-disagree`: for every rate and duration there are two fit states, and an inactive frame that both accept
--- twice, after which an equal active frame gives both different samples. So `agreement` does not hold of two frames in the place of the limit.
+-- twice, after which an equal active frame gives both different samples. So `agreement` does not hold with two frames instead of the limit's number.
 -- The one state is that of a start. The other's last frame was active with the longest lag, and all of its past outputs are NaNs: the fade of
 -- the first inactive frame keeps them, and after the second one a filter of the longest lag still reads one of them.
 use Prim.Native.Nat.{ℕ}

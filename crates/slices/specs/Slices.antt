@@ -6,7 +6,7 @@ use lib.Dec.{leb}
 use lib.Ieee.{Float}
 use lib.ListN.{length, take, drop}
 
--- the list with a block in the place of as many entries
+-- the list with a block in place of as many entries
 unfoldable pub stored : List Float → ℕ → List Float → List Float
 stored into at block = take at into ++ block ++ drop (at + length block) into
 

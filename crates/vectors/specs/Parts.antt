@@ -17,7 +17,7 @@ abbrev pub firstOf : {A : Type 0} → (ℕ → A) → ℕ → List A
 firstOf f zero = []
 firstOf f (suc n) = firstOf f n ++ (f n ∷ [])
 
--- a list with those in the place of its first n entries
+-- a list with those in place of its first n entries
 unfoldable pub filled : {A : Type 0} → (ℕ → A) → ℕ → List A → List A
 filled f n l = firstOf f n ++ drop n l
 
