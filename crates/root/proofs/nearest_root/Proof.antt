@@ -31,7 +31,7 @@ module _ (c : tie.After-whole-root) where
   norm = c .before .before .normalised .ensures
 
   whole : WholeRoot (scaled m k) q
-  whole = rw (unshifted a m k norm) at (c .whole-root .ensures)
+  whole = rw (← unshifted a m k norm) (c .whole-root .ensures)
 
   range : (2 ^ 23 ≤ q) × (q < 2 ^ 24)
   range = root-range (scaled m k) q (scaled-range a m k norm .0) (scaled-range a m k norm .1) whole
