@@ -51,7 +51,7 @@
  * Time
  *
  *   The slowest frames are those of subnormal numbers, and an encoder that falls into digital silence stays in them. On
- *   an Intel Xeon they take 10 to 80 times the typical frame: at most 2.1% of a frame's duration for a decoder's frame,
+ *   an Intel Xeon they take up to 80 times the typical frame: at most 2.1% of a frame's duration for a decoder's frame,
  *   4.3% for one of both ears and 1.4% for an encoder's (docs/BENCHMARK.md); on other processors far less.
  *
  * Stack
