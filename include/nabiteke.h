@@ -5,18 +5,18 @@
  *
  * How to use it
  *
- *   Keep a nabiteke_decoder or a nabiteke_encoder for each stream, start it, then make one call a frame.
+ *   Keep a nabiteke_decoder or a nabiteke_encoder for each stream, start it, then make one call per frame.
  *   Every start, frame, loss mark and lookup, and the writing and reading of a pitch, answers with a number of enum
  *   nabiteke_answer, NABITEKE_DONE when all went well; nabiteke_answer_text puts it into words. For the two ears of a
- *   headset keep a nabiteke_decoder each, and make one call a frame for both.
- *   nabiteke_published.h has the standard's coefficients, which the frame calls are lent.
+ *   headset keep a nabiteke_decoder each, and make one call per frame for both.
+ *   nabiteke_published.h has the standard's coefficients, which are lent to the frame calls.
  *
- *   An encoder takes 16-bit PCM. A decoder takes floats, by custom on the same scale (full scale is +-32768); any
+ *   An encoder takes 16-bit PCM. A decoder takes floats, by convention on the same scale (full scale is +-32768); any
  *   other scale works as well, since the filter is linear, as long as no sample lies beyond +-1048576.
  *
  *   Flags are 0 for no and anything else for yes. Rates are in Hz: 8000, 16000, 24000, 32000, 44100 or 48000.
  *   44100 is treated as 48000 throughout: frames, coefficients and answers are the same; but the two ears of one call
- *   must name the same of the two. Durations are in microseconds: 10000 or 7500.
+ *   must both name the same one. Durations are in microseconds: 10000 or 7500.
  *
  * Who owns what
  *
@@ -33,14 +33,14 @@
  *   - what a call writes (its struct, or the structs of both ears, a decoder's samples, an encoder's record, a pitch or
  *     its bytes, a lag, what is told, a size_t) overlaps nothing else that it is lent;
  *   - no two calls run at the same time on one struct, or on the same bytes where one of them writes.
- *   And floating point must be as a C program usually starts with it: rounding to nearest, subnormal numbers kept, no
- *   exception trapped (on x86-64 an MXCSR of 0x1f80). Audio hosts often flush subnormals (FTZ, DAZ), and a program
- *   linked with gcc's -ffast-math starts with them flushed: undo that around the call, or it gives other bits than are
- *   proved.
+ *   And the floating-point mode must be the one that a C program usually starts in: rounding to nearest, subnormal
+ *   numbers kept, no exception trapped (on x86-64 an MXCSR of 0x1f80). Audio hosts often flush subnormals (FTZ, DAZ),
+ *   and a program linked with gcc's -ffast-math starts with them flushed: undo that around the call, or it gives bits
+ *   other than those proved.
  *
  * What a refused call leaves
  *
- *   A refused frame or loss mark changes nothing: the struct and the samples keep their bits (of a NaN's payload
+ *   A refused frame or loss mark changes nothing: the struct and the samples keep their bits (for a NaN's payload
  *   this is tested, not proved), as do those of a refused ear while the other goes on; and an encoder's record says
  *   absent, 0 bits. A refused start leaves the cleared state of 48000 Hz, 10000 us. A refused writing of a pitch
  *   changes no byte and says 0; a refused reading gives absent and 0. A refused lookup, of a lag or of what a frame
@@ -57,7 +57,7 @@
  * Stack
  *
  *   No call takes more than NABITEKE_STACK bytes of stack, arguments included: measured at every rate and duration
- *   and in all five transitions, of both ears in every pair of them and with one ear refused
+ *   and in all five transitions, for both ears in every pair of them and with one ear refused
  *   (examples/tests/stack.c). With a caller compiled without optimisation the most was 13084 bytes in a static
  *   program, and 16072 in a dynamic one whose call is the first to use memcpy and has to look it up (lazy binding);
  *   the lookup's share depends on the processor and the C library, so there is room to spare.
@@ -90,9 +90,9 @@ enum nabiteke_answer {
     NABITEKE_DONE = 0,         /* done */
     NABITEKE_RATE = 1,         /* the rate is not one of the six */
     NABITEKE_DURATION = 2,     /* the duration is not 10000 or 7500 */
-    NABITEKE_ROWS = 3,         /* a coefficient array has another length than is asked for */
+    NABITEKE_ROWS = 3,         /* a coefficient array does not have the length that is asked for */
     NABITEKE_COEFFICIENT = 4,  /* a coefficient is infinite or NaN */
-    NABITEKE_SAMPLE_COUNT = 5, /* the sample count is not the frame's, of both ears not twice it */
+    NABITEKE_SAMPLE_COUNT = 5, /* the sample count is not the frame's, or for both ears not twice that */
     NABITEKE_NBITS = 6,        /* nbits is above 3200 */
     NABITEKE_PITCH_INDEX = 7,  /* a present pitch has an index above 511 */
     NABITEKE_SAMPLE = 8,       /* a decoder's sample is NaN or beyond +-1048576 */
@@ -179,7 +179,7 @@ typedef struct nabiteke_sets {
     size_t signal_count;
 } nabiteke_sets;
 
-/* The archive's version. A caller whose NABITEKE_VERSION is another was compiled with another archive's header. */
+/* The archive's version. A caller whose NABITEKE_VERSION differs was compiled with another archive's header. */
 uint32_t nabiteke_version(void);
 
 /* How many samples a frame has; 0 where the rate or the duration is unknown. */
@@ -272,8 +272,8 @@ static inline uint32_t nabiteke_decoder_frame(nabiteke_decoder *decoder, const n
  *
  * To each ear this is the frame of a decoder by itself, so calls of one ear and of both may be mixed on a struct.
  * Where only one ear's frame was lost, give both a frame anyway, with concealed samples or silence and no
- * pitch for that ear, and then mark that ear with nabiteke_decoder_lost, so that what stood in does not count for
- * settling. Hiding the loss is the caller's own work.
+ * pitch for that ear, and then mark that ear with nabiteke_decoder_lost, so that the stand-in does not count
+ * towards settling. Hiding the loss is the caller's own work.
  */
 static inline nabiteke_ear_answers nabiteke_decoder_frame_both(nabiteke_decoder *left, nabiteke_decoder *right,
                                                                const nabiteke_rows *rows, nabiteke_pitch left_pitch,
@@ -294,10 +294,10 @@ static inline nabiteke_ear_answers nabiteke_decoder_frame_both(nabiteke_decoder 
 
 /*
  * What the decoder's next frame will do with this pitch and nbits, for a log: ask before the frame, with what the
- * frame will be given. Answers 9, 6, 7 or 0, writes it to *told (all 0 where refused), and changes nothing else. A
- * frame that is then answered 0 does what was told, and one that was told with another answer is not answered 0; the
- * frame may still be refused for its rows or samples (3, 4, 5 or 8), and in a call of both ears with 13. For both
- * ears ask for each.
+ * frame will be given. Answers 9, 6, 7 or 0, writes what the frame will do to *told (all 0 where refused), and changes
+ * nothing else. A frame that is then answered 0 does what was told; where this call does not answer 0, the frame is not
+ * answered 0 either. Where it does, the frame may still be refused for its rows or samples (3, 4, 5 or 8), and in a
+ * call of both ears with 13. For both ears, ask once for each.
  */
 static inline uint32_t nabiteke_decoder_told(const nabiteke_decoder *decoder, nabiteke_pitch pitch, uint32_t nbits,
                                              nabiteke_told *told)
@@ -328,9 +328,9 @@ static inline uint32_t nabiteke_decoder_lost(nabiteke_decoder *decoder)
  * What it is for: take two decoders with any pasts and the same rate, duration and coefficients. Once both have
  * accepted the same 3 inactive frames in a row (4 at 7500 us), with no start or loss mark since the first of them,
  * they give the same answers and sample bits (any NaN for any NaN) for every later frame, as long as the later
- * frames given to both are equal one by one, and until either has a start or a loss mark. The same holds for an ear
- * of two headsets, where frames of both ears are equal to it only if what the ears share is equal too: rows, nbits,
- * sample_count, and the rates and durations that both structs name.
+ * frames given to both are equal one by one, and until either has a start or a loss mark. The same holds for one ear
+ * of two headsets, where frames of both ears count as equal for it only if what the ears share is equal too: rows,
+ * nbits, sample_count, and the rates and durations that both structs name.
  */
 static inline uint32_t nabiteke_decoder_settled(const nabiteke_decoder *decoder)
 {
@@ -380,7 +380,7 @@ static inline uint32_t nabiteke_lag_of(uint32_t rate, uint32_t index, nabiteke_l
 
 /*
  * Packs a pitch as the recorder stores it: writes it at the beginning of bytes, of which there are byte_count, and
- * says in *written how many it took, 2 where a pitch is present and 1 where none is. The others stay as they were.
+ * says in *written how many it took, 2 where a pitch is present and 1 where none is. Other bytes stay as they were.
  * Answers 0, 7 or 15; refused, it changes no byte and *written is 0.
  * The form is bits, highest first: one for presence; if present, one for active and nine for the index; then zero
  * bits to the end of the byte. Present, active, 380 is EF 80; absent is 00. This is not the order of the radio's
@@ -394,7 +394,7 @@ static inline uint32_t nabiteke_pitch_write(nabiteke_pitch pitch, uint8_t *bytes
 /*
  * Reads the packed pitch at the beginning of bytes into *pitch and says in *used how many it took; those that follow
  * are not looked at. Answers 0, 12 or 15; refused, *pitch is absent and *used is 0. Flags are 0 or 1; index and active
- * are 0 where no pitch is present. What nabiteke_pitch_write wrote reads back, and no other bytes are that pitch.
+ * are 0 where no pitch is present. What nabiteke_pitch_write wrote reads back, and no other bytes read as that pitch.
  */
 static inline uint32_t nabiteke_pitch_read(const uint8_t *bytes, size_t byte_count, nabiteke_pitch *pitch,
                                            size_t *used)
