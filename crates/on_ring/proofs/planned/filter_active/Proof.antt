@@ -5,6 +5,10 @@ use borrow.Author.Needs.{needs}
 use Rattle.on_ring.proofs.planned.filter_active.Statement.{statement}
 use Rattle.on_ring.proofs.planned.filter_active.Tie as tie
 
+-- what making the filter asks; first, so that a wrong order is refused here
+compute-filter-coeffs-requires : tie.Need-compute-filter-coeffs-requires
+compute-filter-coeffs-requires c κs = search needs
+
 filter-block-requires : tie.Need-filter-block-requires
 filter-block-requires c κs =
     let made = c .before .before .before .before in
@@ -23,4 +27,4 @@ returns c =
     (new, rw (new, read-new (s .args .plan) (s .args .numerators .now) (s .args .denominators .now) (s .pre .rows .most) (s .pre .lagless)) at (filtered .filter-block .ensures))
 
 pub filter-active-spec : {M : Type 1} → statement M
-filter-active-spec = tie.close (tie.spec (λ c κs. search needs) (λ c. search needs) filter-block-requires (λ c. search needs) returns)
+filter-active-spec = tie.close (tie.spec compute-filter-coeffs-requires (λ c. search needs) filter-block-requires (λ c. search needs) returns)

@@ -1,12 +1,17 @@
 -- `lose` goes by fitness.
-use Rattle.replaying.specs.Frames.{lostMarks}
+use mathlib.Core.Path.{ap}
+use Rattle.rates.specs.declared.answer.Answer.the-variants.{Done}
+use Rattle.control.specs.declared.marks.Marks.{Marks}
+use Rattle.replaying.specs.Frames.{dashedRow, lostMarks}
 use borrow.Author.Needs.{needs}
 use Rattle.replaying.proofs.frame.lose.Statement.{statement}
 use Rattle.replaying.proofs.frame.lose.Tie as tie
 
 returns : tie.Need-returns
 unfolding lostMarks
-returns c = rw (c .dashed-row .ensures, c .before .unsettle .ensures, ← c .before .before .before .before .fit-config .ensures, c .before .before .enum-told .given .1)
+returns c =
+    rw (c .dashed-row .ensures, ← c .before .before .before .before .fit-config .ensures, c .before .before .enum-told .given .1)
+    (ap (λ (m : Marks). record { marks = m; row = dashedRow Done }) (c .before .unsettle .ensures))
 
 returns-2 : tie.Need-returns-2
 unfolding lostMarks
