@@ -271,6 +271,8 @@ static inline uint32_t nabiteke_decoder_frame(nabiteke_decoder *decoder, const n
  * next frame is answered 13.
  *
  * To each ear this is the frame of a decoder by itself, so calls of one ear and of both may be mixed on a struct.
+ * For settling, two such frames count as equal for an ear only where all that the ears share is equal too: rows, nbits,
+ * sample_count, and the rates and durations that both structs name.
  * Where only one ear's frame was lost, give both a frame anyway, with concealed samples or silence and no
  * pitch for that ear, and then mark that ear with nabiteke_decoder_lost, so that the stand-in does not count
  * towards settling. Hiding the loss is the caller's own work.
