@@ -6,6 +6,7 @@ use mathlib.Core.List.{List, []}
 use native.Mathlib.Omega.{arith}
 use lib.Dec.{eqb}
 use lib.Ieee.{Float}
+use lib.ListN.{length}
 use Rattle.rates.specs.Answers.{numberOf}
 use Rattle.rates.specs.Configs.{configOf}
 use Rattle.rates.specs.declared.answer.Answer.{Answer}
@@ -13,47 +14,26 @@ use Rattle.rates.specs.declared.answer.Answer.the-variants.{UnfitState}
 use Rattle.rates.specs.declared.config.Lc3Config.{Lc3Config}
 use Rattle.rates.specs.declared.config.Configured.{Configured}
 use Rattle.rates.specs.declared.config.Configured.the-variants.{Config, Refused}
-use Rattle.coefficients.specs.Coefficients.{readOut}
 use Rattle.control.specs.Next.{nextMarks}
 use Rattle.judging.specs.Judge.{planOf, judged}
 use Rattle.judging.specs.declared.plan.Plan.{Plan}
+use Rattle.judging.specs.declared.plan.Verdict.{Verdict}
+use Rattle.judging.specs.declared.plan.Verdict.the-variants.{Accepted}
 use Rattle.judging.proofs.Judging as judging
 use Rattle.judging.proofs.Judging.{declined, passed, verdict}
-use Rattle.judging.proofs.Planned.{lag-fitting, lagless, lent-rows}
-use Rattle.judging.proofs.Readable.{inside-of-lag}
 use Rattle.rings.specs.Ring.{nextBlock}
 use Rattle.on_ring.specs.Registers.{ringFits, fitAs}
 use Rattle.on_ring.specs.Required.{Judged}
-use Rattle.on_ring.proofs.Checks.{as-planned, checks, fitting, found, sizes, block-fits}
+use Rattle.on_ring.proofs.Checks.{block-fits}
 use Rattle.decoder.specs.State.{fitDecoder}
 use Rattle.decoder.specs.Frame.{framedAs, done, accepted, framedWith, framed}
 use Rattle.decoder.specs.declared.state.Decoder.{Decoder}
 use Rattle.decoder.specs.declared.frame.Framed.{Framed}
 use Rattle.settling_laws.specs.Calls.{Given, framedBy}
+use Rattle.telling.proofs.Agreement.{Agree, refused, accepted as agreed, frame-agrees}
 use Rattle.c_arrays.specs.Registers.{Fits32}
-
-module _ (d : Decoder) {plan : Plan} {nums dens frame : List Float} (j : Judged (d .registers) nums dens frame plan) where
-  next-start : nextBlock (plan .config .history) (plan .config .nf) (d .registers .«block_start_index») < 2 ^ 32
-  next-start = go (eqb (d .registers .«block_start_index» + plan .config .nf) (plan .config .history))
-    where
-      go : (b : Bool) → cond b 0 (d .registers .«block_start_index» + plan .config .nf) < 2 ^ 32
-      go true = omega arith
-      go false = omega (arith, block-fits j)
-
-  next-whole : plan .lag .whole ≤ 1100
-  next-whole = go (plan .active) refl
-    where
-      go : (b : Bool) → plan .active ≡ b → plan .lag .whole ≤ 1100
-      go false e = omega (arith, lagless (fitting j) (as-planned j) (checks j) e)
-      go true e =
-          let near = inside-of-lag (plan .config) (found j) (readOut (plan .config .fs .«l_den») (plan .lag .whole) []) refl (plan .lag) refl
-          (rw e at (lag-fitting (fitting j) (as-planned j) (checks j))) in
-          let s = sizes j in
-          omega arith
-
-  next-fits : Fits32 (accepted d plan nums dens frame .0 .registers)
-  unfolding accepted nextMarks
-  next-fits = record { block = next-start; whole = omega (arith, next-whole); quarter = omega (arith, lent-rows (fitting j) (as-planned j) (checks j) .2) }
+use Rattle.c_telling.specs.Required.{Narrow}
+use Rattle.c_telling.proofs.Narrow.{plan-small}
 
 -- an unfit state is answered with 9
 unfit-number : (d : Decoder) (a : Answer) → fitDecoder d ≡ Refused a → numberOf a ≡ 9
@@ -72,6 +52,31 @@ unfit-number d a e = go (configOf (d .registers .marks .rate) (d .registers .mar
 
 pub unfit-some : (d : Decoder) (a : Answer) → fitDecoder d ≡ Refused a → numberOf a ≡ 0 → ⊥
 unfit-some d a e z = omega (arith, unfit-number d a e)
+
+-- where a frame is accepted, its plan is what is told
+as-accepted : {v w : Verdict} {plan : Plan} → Agree v w → v ≡ Accepted plan → w ≡ Accepted plan
+as-accepted (refused answer h) e = let z : _≡_ {A = ℕ} 0 1 = cc in absurd (omega arith)
+as-accepted (agreed plan) e = e
+
+module _ (d : Decoder) {plan : Plan} {nums dens frame : List Float} (j : Judged (d .registers) nums dens frame plan) where
+  next-start : nextBlock (plan .config .history) (plan .config .nf) (d .registers .«block_start_index») < 2 ^ 32
+  next-start = go (eqb (d .registers .«block_start_index» + plan .config .nf) (plan .config .history))
+    where
+      go : (b : Bool) → cond b 0 (d .registers .«block_start_index» + plan .config .nf) < 2 ^ 32
+      go true = omega arith
+      go false = omega (arith, block-fits j)
+
+  -- the lag is one that is told of this plan, which C's numbers hold
+  next-lag : Narrow (plan .lag)
+  unfolding judged
+  next-lag =
+      let r = d .registers in
+      let agrees = frame-agrees (r .marks) nums dens (j .side) (λ c. eqb (length frame) (c .nf)) frame (fitDecoder d) (unfit-some d) in
+      plan-small r (j .side) plan (as-accepted agrees (j .verdict)) .0
+
+  next-fits : Fits32 (accepted d plan nums dens frame .0 .registers)
+  unfolding accepted nextMarks
+  next-fits = record { block = next-start; whole = next-lag .whole; quarter = next-lag .quarter }
 
 -- what a frame call can give
 pub data Outcome (d : Decoder) (samples : List Float) : Framed × List Float → Type 0 where
