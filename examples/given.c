@@ -21,8 +21,8 @@ void *rust_encoder_start(uint32_t rate, uint32_t duration, struct piece *pieces)
 void rust_encoder_frame(void *encoder, const int16_t *samples, size_t count, uint32_t nbits, uint32_t near_nyquist,
                         uint32_t *record);
 
-/* A struct's numbers: which of these it is, from 1; its frame length; a decoder's run, limit and settled mark. */
-enum { STARTED, LENGTH, RUN, LIMIT, SETTLED };
+/* A struct's numbers: which of these it is, from 1; its frame length; a decoder's run and settled mark. */
+enum { STARTED, LENGTH, RUN, SETTLED };
 static void *started[8];
 static uint32_t started_count;
 
@@ -71,12 +71,8 @@ static uint32_t judge(const uint32_t *numbers, size_t sample_count, uint32_t nbi
 uint32_t nabiteke_decoder_start_(uint32_t *numbers, float *kept, float *inputs, float *outputs, uint32_t rate,
                                  uint32_t duration)
 {
-    uint32_t answer;
     (void)kept, (void)inputs, (void)outputs;
-    numbers[SETTLED] = 0;
-    answer = start(numbers, rust_decoder_start, rate, duration);
-    numbers[LIMIT] = duration == 10000 ? 3 : 4;
-    return answer;
+    return start(numbers, rust_decoder_start, rate, duration);
 }
 
 uint32_t nabiteke_decoder_frame_(uint32_t *numbers, float *kept, float *inputs, float *outputs,
@@ -90,7 +86,7 @@ uint32_t nabiteke_decoder_frame_(uint32_t *numbers, float *kept, float *inputs, 
     if (answer != NABITEKE_DONE)
         return answer;
     numbers[RUN] = pitch_present && pitch_active ? 0 : numbers[RUN] + 1;
-    numbers[SETTLED] |= numbers[RUN] >= numbers[LIMIT];
+    numbers[SETTLED] |= numbers[RUN] >= 3;
     rust_decoder_frame(started[numbers[STARTED] - 1], pitch_present, pitch_index, pitch_active, nbits, samples,
                        sample_count);
     return NABITEKE_DONE;

@@ -69,12 +69,14 @@
 #include <stdint.h>
 
 #define NABITEKE_VERSION_MAJOR 2
-#define NABITEKE_VERSION_MINOR 0
+#define NABITEKE_VERSION_MINOR 1
 #define NABITEKE_VERSION_PATCH 0
-/* One number, which rises from version to version: 20000 is 2.0.0. Since 1.1.0 a decoder at 44100 gives what one at
+/* One number, which rises from version to version: 20100 is 2.1.0. Since 1.1.0 a decoder at 44100 gives what one at
    48000 gives; since 1.2.0 a pitch can be packed; since 1.3.0 both ears can be decoded in one call. What 2.0.0 changed
    for a caller: struct nabiteke_answers is now called nabiteke_ear_answers. It added nabiteke_version,
-   nabiteke_answer_text, nabiteke_lag_of and nabiteke_decoder_told. */
+   nabiteke_answer_text, nabiteke_lag_of and nabiteke_decoder_told. Since 2.1.0 3 inactive frames settle a decoder at
+   7500 us too, where it took 4 (a struct that an older archive left there with a run of 4, or of 3 while not settled,
+   is answered 9). */
 #define NABITEKE_VERSION (NABITEKE_VERSION_MAJOR * 10000 + NABITEKE_VERSION_MINOR * 100 + NABITEKE_VERSION_PATCH)
 
 #define NABITEKE_STACK 20480
@@ -323,16 +325,16 @@ static inline uint32_t nabiteke_decoder_lost(nabiteke_decoder *decoder)
 }
 
 /*
- * Whether the decoder has settled. From a start: 1 exactly where it has accepted 3 inactive frames in a row (4 at
- * 7500 us) since its last start or loss mark, else 0. A frame is accepted where its call answers 0, and inactive
- * where it has no active pitch; refused frames do not count, and active frames after that row leave the report at 1.
+ * Whether the decoder has settled. From a start: 1 exactly where it has accepted 3 inactive frames in a row since its
+ * last start or loss mark, else 0. A frame is accepted where its call answers 0, and inactive where it has no active
+ * pitch; refused frames do not count, and active frames after that row leave the report at 1.
  *
  * What it is for: take two decoders with any pasts and the same rate, duration and coefficients. Once both have
- * accepted the same 3 inactive frames in a row (4 at 7500 us), with no start or loss mark since the first of them,
- * they give the same answers and sample bits (any NaN for any NaN) for every later frame, as long as the later
- * frames given to both are equal one by one, and until either has a start or a loss mark. The same holds for one ear
- * of two headsets, where frames of both ears count as equal for it only if what the ears share is equal too: rows,
- * nbits, sample_count, and the rates and durations that both structs name.
+ * accepted the same 3 inactive frames in a row, with no start or loss mark since the first of them, they give the same
+ * answers and sample bits (any NaN for any NaN) for every later frame, as long as the later frames given to both are
+ * equal one by one, and until either has a start or a loss mark. The same holds for one ear of two headsets, where
+ * frames of both ears count as equal for it only if what the ears share is equal too: rows, nbits, sample_count, and
+ * the rates and durations that both structs name.
  */
 static inline uint32_t nabiteke_decoder_settled(const nabiteke_decoder *decoder)
 {

@@ -110,7 +110,7 @@ static void make_differ(int variant)
 static void make_unfit(nabiteke_decoder *decoder, int variant)
 {
     static const int places[CASES] = {3, 3, 6, 4, 5};
-    static const uint32_t numbers[CASES] = {1, 1080, 5, 4294967295u, 4};
+    static const uint32_t numbers[CASES] = {1, 1080, 4, 4294967295u, 4};
     decoder->numbers[2] = variant > 2;
     decoder->numbers[6] = 0;
     decoder->numbers[places[variant]] = numbers[variant];

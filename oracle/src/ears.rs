@@ -1,6 +1,6 @@
 // What is new in a frame of both ears: who is refused, and with which number. Written from the rules of the
 // call alone; what an ear that is not refused gets is the decoder's affair, on its own samples.
-use crate::model::decoder::Decoder;
+use crate::model::decoder::{Decoder, SETTLED_LIMIT};
 use crate::model::{answer, Pitch, MOST_BITS};
 
 pub const LEFT: usize = 0;
@@ -41,10 +41,9 @@ pub fn started_names(state: &Decoder) -> (u32, u32) {
 // Whether a state is unfit: it names what it was not started with (of made-up names the rate or the
 // duration is not in the table), or its run is one that it cannot have.
 pub fn unfit(state: &Decoder, named: (u32, u32)) -> bool {
-    let limit = if state.config.ten_ms { 3 } else { 4 };
     named != started_names(state)
-        || state.run > limit
-        || state.run == limit && !state.settled
+        || state.run > SETTLED_LIMIT
+        || state.run == SETTLED_LIMIT && !state.settled
         || state.run > 0 && state.previous.is_some()
 }
 

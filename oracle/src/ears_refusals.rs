@@ -2,7 +2,8 @@
 // of numbers, and after each refused call a good one that must go on as if the refused one had not been.
 use crate::ears::{LEFT, RIGHT};
 use crate::ears_judge::EarsJudge;
-use crate::model::rates::{SEVEN_POINT_FIVE_MS, TEN_MS};
+use crate::model::decoder::SETTLED_LIMIT;
+use crate::model::rates::{DURATIONS, SEVEN_POINT_FIVE_MS, TEN_MS};
 use crate::model::{present, Pitch};
 use crate::refusals::{ramp, shorten, GOOD, REFUSED_STARTS};
 use crate::set::Set;
@@ -238,22 +239,22 @@ fn unfit_and_different<W: Write>(judge: &mut EarsJudge<W>, ear: usize) {
 
 // A run at its limit is unfit while not settled, a run above 0 after an active frame, a run above its limit
 // even where settled; one at its limit is fit where settled. A loss mark of an unfit ear is refused too.
-fn unfit_runs<W: Write>(judge: &mut EarsJudge<W>, set: &Set, duration: u32, limit: u32) {
+fn unfit_runs<W: Write>(judge: &mut EarsJudge<W>, set: &Set, duration: u32) {
     let inactive = [None, present(9, false)];
     for ear in [LEFT, RIGHT] {
         judge.start_both(8000, duration);
         judge.lend(set);
         let buffer = ramp(5, 2 * judge.ears[ear].judge.model.config.frame());
         let one = |number: u8| [LEFT, RIGHT].map(|e| if e == ear { number } else { 0 });
-        judge.put_run(ear, limit);
+        judge.put_run(ear, SETTLED_LIMIT);
         assert_eq!(judge.frame(inactive, 100, &buffer), one(9));
         assert_eq!(judge.loss_mark(ear), 9);
         assert_eq!(judge.loss_mark(1 - ear), 0);
-        judge.put_run(ear, limit - 1);
+        judge.put_run(ear, SETTLED_LIMIT - 1);
         assert_eq!(judge.frame(inactive, 100, &buffer), [0, 0]);
-        judge.put_run(ear, limit + 1);
+        judge.put_run(ear, SETTLED_LIMIT + 1);
         assert_eq!(judge.frame(inactive, 100, &buffer), one(9));
-        judge.put_run(ear, limit);
+        judge.put_run(ear, SETTLED_LIMIT);
         assert_eq!(judge.frame([GOOD[0]; 2], 100, &buffer), [0, 0]);
         judge.put_run(ear, 1);
         assert_eq!(judge.frame([GOOD[1]; 2], 100, &buffer), one(9));
@@ -316,12 +317,13 @@ pub fn ears<W: Write>(judge: &mut EarsJudge<W>, set: &Set) {
     refused_starts(judge, set);
     spoiled_calls(judge, set);
     different_ears(judge, set);
-    unfit_runs(judge, set, TEN_MS, 3);
-    unfit_runs(judge, set, SEVEN_POINT_FIVE_MS, 4);
+    for duration in DURATIONS {
+        unfit_runs(judge, set, duration);
+    }
     lent_rows_of_44100(judge, set);
     limits(judge, set);
-    let ten = ["iiiiairiliiruiisiiiai", "aiiriiiaiiiiliiiiuiii"];
-    settled(judge, set, TEN_MS, ten);
-    let shorter = ["iiiiiairiiiliiiiruiiisiiiiai", "aiiiriiiiaiiiiiliiiiiuiiiiii"];
-    settled(judge, set, SEVEN_POINT_FIVE_MS, shorter);
+    let letters = ["iiiiairiliiruiisiiiai", "aiiriiiaiiiiliiiiuiii"];
+    for duration in DURATIONS {
+        settled(judge, set, duration, letters);
+    }
 }

@@ -2,7 +2,7 @@
 // and after each refused call a good one that must go on as if the refused one had not been.
 use crate::decoder_judge::DecoderJudge;
 use crate::encoder_judge::EncoderJudge;
-use crate::model::rates::{SEVEN_POINT_FIVE_MS, TEN_MS};
+use crate::model::rates::{DURATIONS, SEVEN_POINT_FIVE_MS, TEN_MS};
 use crate::model::{present, Pitch};
 use crate::set::Set;
 use std::io::Write;
@@ -193,8 +193,9 @@ pub fn decoder<W: Write>(judge: &mut DecoderJudge<W>, set: &Set) {
     spoiled_decoder_calls(judge, set);
     lent_rows_of_44100(judge, set);
     decoder_limits(judge, set);
-    settled(judge, set, TEN_MS, "iiiiairilriirialiilsiixiii");
-    settled(judge, set, SEVEN_POINT_FIVE_MS, "iiiiiairilriiirialiiilsiiii");
+    for duration in DURATIONS {
+        settled(judge, set, duration, "iiiiairilriirialiilsiixiii");
+    }
 }
 
 #[derive(Clone)]

@@ -1,5 +1,5 @@
 -- What fit marks have: a lag of their rate, and a run within its limit.
-use Prim.Native.Nat.{ℕ, _/_, _≤_, _<_}
+use Prim.Native.Nat.{ℕ, _/_, _≤_}
 use mathlib.Core.Path.{_≡_, refl}
 use mathlib.Core.Bool.{Bool, true, false, cond, not, _&&_}
 use native.Mathlib.Omega.{arith}
@@ -7,8 +7,6 @@ use borrow.Author.Tests.{leb-true, ltb-false, not-true}
 use lib.Dec.{leb, ltb}
 use Rattle.rates.specs.Configs.{configOf}
 use Rattle.rates.specs.declared.table.Rate.{Rate}
-use Rattle.rates.specs.declared.duration.FrameDuration.{FrameDuration}
-use Rattle.rates.specs.declared.duration.FrameDuration.the-variants.{TenMs, SevenPointFiveMs}
 use Rattle.rates.specs.declared.answer.Answer.the-variants.{UnfitState}
 use Rattle.rates.specs.declared.config.Lc3Config.{Lc3Config}
 use Rattle.rates.specs.declared.config.Configured.{Configured}
@@ -32,25 +30,19 @@ lag-within fs lag h =
       leb-true (lag .quarter) 3 (t .1),
     )
 
--- the run's limit is not 0
-pub limit-some : (d : FrameDuration) → 0 < settledLimit d
-unfolding settledLimit
-limit-some TenMs = omega arith
-limit-some SevenPointFiveMs = omega arith
-
 -- a fit run is not above its limit
-pub run-within : (d : FrameDuration) (active : Bool) (run : ℕ) (settled : Bool) → runFits d active run settled ≡ true → run ≤ settledLimit d
+pub run-within : (active : Bool) (run : ℕ) (settled : Bool) → runFits active run settled ≡ true → run ≤ settledLimit
 unfolding runFits
-run-within d active run settled h =
-    let t = both (not (active && ltb 0 run) && not (ltb (settledLimit d) run)) _ h in
-    let u = both (not (active && ltb 0 run)) (not (ltb (settledLimit d) run)) (t .0) in
-    ltb-false (settledLimit d) run (not-true (ltb (settledLimit d) run) (u .1))
+run-within active run settled h =
+    let t = both (not (active && ltb 0 run) && not (ltb settledLimit run)) _ h in
+    let u = both (not (active && ltb 0 run)) (not (ltb settledLimit run)) (t .0) in
+    ltb-false settledLimit run (not-true (ltb settledLimit run) (u .1))
 
 -- what fitness comes to
 pub record Fits (c : Lc3Config) (m : Marks) : Type 0 where
   pub config : configOf (m .rate) (m .duration) ≡ Config c
   pub lag : lagFits (c .fs) (m .«ltpf_active_prev») (m .lag) ≡ true
-  pub run : runFits (c .«n_ms») (m .«ltpf_active_prev») (m .run) (m .settled) ≡ true
+  pub run : runFits (m .«ltpf_active_prev») (m .run) (m .settled) ≡ true
 
 -- marks that fit the configuration that they name
 pub fits-as : (m : Marks) (c : Lc3Config) → configOf (m .rate) (m .duration) ≡ Config c → fit c m ≡ true → Fits c m

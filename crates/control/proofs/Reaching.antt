@@ -22,11 +22,10 @@ module _ (c : Lc3Config) (k : FromTable c) where
   reach-within = omega (arith, longest-lag (k .0) (c .fs) (k .1 .row) (c .«n_ms»), k .1 .past)
 
   -- the limit's frames hold it, and a fade before it
-  pub limit-enough : reach (c .fs) + c .fs .fade ≤ settledLimit (c .«n_ms») * c .nf
-  unfolding rescaled settledLimit
+  pub limit-enough : reach (c .fs) + c .fs .fade ≤ settledLimit * c .nf
+  unfolding rescaled
   limit-enough = rw (k .1 .frame) (go (c .«n_ms»))
     where
-      go : (t : FrameDuration) → reach (c .fs) + c .fs .fade ≤ settledLimit t * frameOf (c .fs) t
-      go TenMs = bound-at (λ (r : Rate). reach r + r .fade) (λ (r : Rate). settledLimit TenMs * r .«nf_10») tt (k .0) (c .fs) (k .1 .row)
-      go SevenPointFiveMs =
-          bound-at (λ (r : Rate). reach r + r .fade) (λ (r : Rate). settledLimit SevenPointFiveMs * r .«nf_7p5») tt (k .0) (c .fs) (k .1 .row)
+      go : (t : FrameDuration) → reach (c .fs) + c .fs .fade ≤ settledLimit * frameOf (c .fs) t
+      go TenMs = bound-at (λ (r : Rate). reach r + r .fade) (λ (r : Rate). settledLimit * r .«nf_10») tt (k .0) (c .fs) (k .1 .row)
+      go SevenPointFiveMs = bound-at (λ (r : Rate). reach r + r .fade) (λ (r : Rate). settledLimit * r .«nf_7p5») tt (k .0) (c .fs) (k .1 .row)

@@ -1,19 +1,18 @@
 -- The marks after a frame and after a loss mark.
 use mathlib.Core.Bool.{Bool, false}
-use Rattle.rates.specs.declared.duration.FrameDuration.{FrameDuration}
 use Rattle.lag.specs.declared.rescale.Lag.{Lag}
 use Rattle.control.specs.State.{runAfter, settledAfter}
 use Rattle.control.specs.declared.marks.Marks.{Marks}
 
 -- after a frame, active or not, with this lag: it is remembered, and the run counts
-unfoldable pub nextMarks : Marks → FrameDuration → Bool → Lag → Marks
-nextMarks m d active lag =
-    let run = runAfter d active (m .run) in record {
+unfoldable pub nextMarks : Marks → Bool → Lag → Marks
+nextMarks m active lag =
+    let run = runAfter active (m .run) in record {
       rate = m .rate;
       duration = m .duration;
       run = run;
       «ltpf_active_prev» = active;
-      settled = settledAfter d (m .settled) run;
+      settled = settledAfter (m .settled) run;
       lag = lag;
     }
 

@@ -5,8 +5,6 @@ use lib.Dec.{leb, ltb, eqb}
 use Rattle.rates.specs.Configs.{configOf}
 use Rattle.rates.specs.declared.answer.Answer.the-variants.{UnfitState}
 use Rattle.rates.specs.declared.table.Rate.{Rate}
-use Rattle.rates.specs.declared.duration.FrameDuration.{FrameDuration}
-use Rattle.rates.specs.declared.duration.FrameDuration.the-variants.{TenMs, SevenPointFiveMs}
 use Rattle.rates.specs.declared.config.Lc3Config.{Lc3Config}
 use Rattle.rates.specs.declared.config.Configured.{Configured}
 use Rattle.rates.specs.declared.config.Configured.the-variants.{Config, Refused}
@@ -29,10 +27,9 @@ clearedMarks rate duration = record {
   lag = noLag;
 }
 
--- the run's limit
-unfoldable pub settledLimit : FrameDuration → ℕ
-settledLimit TenMs = 3
-settledLimit SevenPointFiveMs = 4
+-- the run's limit: so many accepted inactive frames in a row settle a decoder
+abbrev pub settledLimit : ℕ
+settledLimit = 3
 
 -- after an active frame the whole lag is between those of the indices 0 and 511, and the quarter at most 3
 unfoldable pub lagFits : Rate → Bool → Lag → Bool
@@ -41,13 +38,12 @@ lagFits fs true lag =
     leb (lagOf (fs .r) (quarters 0) .whole) (lag .whole) && leb (lag .whole) (lagOf (fs .r) (quarters 511) .whole) && leb (lag .quarter) 3
 
 -- the run is not above 0 after an active frame, not above its limit, and not at its limit while settled is no
-unfoldable pub runFits : FrameDuration → Bool → ℕ → Bool → Bool
-runFits d active run settled =
-    not (active && ltb 0 run) && not (ltb (settledLimit d) run) && not (eqb run (settledLimit d) && not settled)
+unfoldable pub runFits : Bool → ℕ → Bool → Bool
+runFits active run settled = not (active && ltb 0 run) && not (ltb settledLimit run) && not (eqb run settledLimit && not settled)
 
 -- fit: none of the things that the scope lists as unfit
 abbrev pub fit : Lc3Config → Marks → Bool
-fit c m = lagFits (c .fs) (m .«ltpf_active_prev») (m .lag) && runFits (c .«n_ms») (m .«ltpf_active_prev») (m .run) (m .settled)
+fit c m = lagFits (c .fs) (m .«ltpf_active_prev») (m .lag) && runFits (m .«ltpf_active_prev») (m .run) (m .settled)
 
 -- an unknown rate or duration is unfit too
 abbrev pub fitWith : Marks → Configured → Configured
@@ -59,9 +55,9 @@ abbrev pub fitConfig : Marks → Configured
 fitConfig m = fitWith m (configOf (m .rate) (m .duration))
 
 -- the run after a frame: an active frame zeroes it, an inactive one counts, up to the limit
-abbrev pub runAfter : FrameDuration → Bool → ℕ → ℕ
-runAfter d active run = cond active 0 (min (run + 1) (settledLimit d))
+abbrev pub runAfter : Bool → ℕ → ℕ
+runAfter active run = cond active 0 (min (run + 1) settledLimit)
 
 -- settled becomes yes when the run reaches its limit, and stays so
-abbrev pub settledAfter : FrameDuration → Bool → ℕ → Bool
-settledAfter d settled run = settled || eqb run (settledLimit d)
+abbrev pub settledAfter : Bool → ℕ → Bool
+settledAfter settled run = settled || eqb run settledLimit

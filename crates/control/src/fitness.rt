@@ -1,25 +1,15 @@
 // Which marks are fit: those that a start and frames can have led to, and some more.
 use crate::marks::Marks;
+use crate::marks::SETTLED_LIMIT;
 use lag::rescale::Lag;
 use lag::rescale::rescale;
 use rates::answer::Answer;
 use rates::config::Configured;
 use rates::config::Lc3Config;
 use rates::config::config;
-use rates::duration::FrameDuration;
 use rates::table::Rate;
 ghost use mathlib.Core.Path.{_≡_};
-ghost use Rattle.control.specs.State.{settledLimit, lagFits, runFits, fit, fitConfig};
-
-// How many inactive frames in a row settle a decoder.
-pub(crate) fn settled_limit(n_ms: FrameDuration) -> u32
-    ensures { λ r. ⌜ r ≡ settledLimit «n_ms» ⌝ }
-{
-    match n_ms {
-        FrameDuration::TenMs => 3,
-        FrameDuration::SevenPointFiveMs => 4,
-    }
-}
+ghost use Rattle.control.specs.State.{lagFits, runFits, fit, fitConfig};
 
 // Whether the rate has the lag, if it is used.
 fn lag_fits(fs: Rate, active: bool, lag: Lag) -> bool
@@ -40,17 +30,16 @@ fn lag_fits(fs: Rate, active: bool, lag: Lag) -> bool
 }
 
 // Whether a run of inactive frames can have that length.
-fn run_fits(n_ms: FrameDuration, active: bool, run: u32, settled: bool) -> bool
-    ensures { λ r. ⌜ r ≡ runFits «n_ms» active run settled ⌝ }
+fn run_fits(active: bool, run: u32, settled: bool) -> bool
+    ensures { λ r. ⌜ r ≡ runFits active run settled ⌝ }
 {
-    let limit = settled_limit(n_ms);
     if active {
         return run == 0;
     }
-    if run < limit {
+    if run < SETTLED_LIMIT {
         return true;
     }
-    if run == limit {
+    if run == SETTLED_LIMIT {
         return settled;
     }
     false
@@ -63,11 +52,10 @@ pub fn fits(marks: Marks, config: Lc3Config) -> bool
     let active = marks.ltpf_active_prev;
     let lag = marks.lag;
     let fs = config.fs;
-    let n_ms = config.n_ms;
     if !lag_fits(fs, active, lag) {
         return false;
     }
-    run_fits(n_ms, active, marks.run, marks.settled)
+    run_fits(active, marks.run, marks.settled)
 }
 
 // The configuration of fit marks. Unfit ones are refused.

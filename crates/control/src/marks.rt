@@ -14,6 +14,9 @@ pub struct Marks {
     pub lag: Lag,
 }
 
+// How many inactive frames in a row settle a decoder.
+pub(crate) const SETTLED_LIMIT: u32 = 3;
+
 // The marks of a start.
 pub fn clear(rate: u32, duration: u32) -> Marks
     ensures { λ r. ⌜ r ≡ clearedMarks rate duration ⌝ }

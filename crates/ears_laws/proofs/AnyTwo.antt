@@ -62,7 +62,7 @@ module _ (c : Lc3Config) (l m : Listener) (al : WithArrays l) (am : WithArrays m
 -- an ear's calls that settle two states
 quiet-agree : (a b : Decoder) (fa : one.Fit a) → one.Fit b →
     a .registers .marks .rate ≡ b .registers .marks .rate → a .registers .marks .duration ≡ b .registers .marks .duration →
-    (calls-a calls-b : List EarCall) → AllSound calls-a → AllSound calls-b → one.QuietAlike (one.limitOf a) (earEvents a calls-a) (earEvents b calls-b) →
+    (calls-a calls-b : List EarCall) → AllSound calls-a → AllSound calls-b → one.QuietAlike (earEvents a calls-a) (earEvents b calls-b) →
     Agree (fa .0) (earAfterAll a calls-a) (earAfterAll b calls-b)
 quiet-agree a b fa fb hz us calls-a calls-b ha hb q =
     let ka = stand a fa calls-a ha in
@@ -72,7 +72,7 @@ quiet-agree a b fa fb hz us calls-a calls-b ha hb q =
 
 pub any-two-agree : (l m : Listener) → WithArrays l → WithArrays m → one.Fit (state l) → one.Fit (state m) →
     state l .registers .marks .rate ≡ state m .registers .marks .rate → state l .registers .marks .duration ≡ state m .registers .marks .duration →
-    (calls-l : Calls l) (calls-m : Calls m) → one.QuietAlike (one.limitOf (state l)) (eventsIn l calls-l) (eventsIn m calls-m) →
+    (calls-l : Calls l) (calls-m : Calls m) → one.QuietAlike (eventsIn l calls-l) (eventsIn m calls-m) →
     (later-l : Calls (called l calls-l)) (later-m : Calls (called m calls-m)) (later : List EarGiven) →
     callsIn (called l calls-l) later-l ≡ map one.frame later → callsIn (called m calls-m) later-m ≡ map one.frame later →
     repliesIn (called l calls-l) later-l ≡ repliesIn (called m calls-m) later-m

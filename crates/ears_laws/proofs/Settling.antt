@@ -14,6 +14,7 @@ use mathlib.Core.List.{List, [], _∷_, map}
 use native.Mathlib.Omega.{arith}
 use Rattle.rates.specs.Answers.{numberOf}
 use Rattle.rates.specs.declared.config.Lc3Config.{Lc3Config}
+use Rattle.control.specs.State.{settledLimit}
 use Rattle.judging.specs.declared.plan.Verdict.{Verdict}
 use Rattle.judging.specs.declared.plan.Verdict.the-variants.{Refused, Accepted}
 use Rattle.decoder.specs.State.{started}
@@ -95,18 +96,18 @@ module _ (e : WhichEar) (h : Headset) (rate duration : ℕ) (from : own e h ≡ 
   pub ear-never-unfit-answer : (c : Call) (earlier : List Call) (r : one.Reply) → replyTo e (afterAll h earlier) c ≡ r ∷ [] → numberOf (r .answer) ≡ 9 → ⊥
   ear-never-unfit-answer c earlier = call-answer e (afterAll h earlier) (ear-always-fit earlier) c
 
-  pub ear-run-within-limit : (calls : List Call) → own e (afterAll h calls) .registers .marks .run ≤ one.limitOf (own e (afterAll h calls))
+  pub ear-run-within-limit : (calls : List Call) → own e (afterAll h calls) .registers .marks .run ≤ settledLimit
   ear-run-within-limit calls =
       rw (state-by-itself e h calls, stands calls .state, from) (run-within-limit rate duration (map oneCall (callsOf e h calls)))
 
   pub ear-marked-exactly : (calls : List Call) →
-      own e (afterAll h calls) .registers .marks .settled ≡ one.settledBy (one.limitOf (own e (afterAll h calls))) (eventsTo e h calls)
+      own e (afterAll h calls) .registers .marks .settled ≡ one.settledBy (eventsTo e h calls)
   ear-marked-exactly calls =
       let k = stands calls in
       rw (state-by-itself e h calls, k .state, k .events, from) (marked-exactly rate duration (map oneCall (callsOf e h calls)))
 
   pub ear-settled-exactly : (c : Call) (earlier : List Call) (r : one.Reply) → replyTo e (afterAll h earlier) c ≡ r ∷ [] →
-      r .settled ≡ one.settledBy (one.limitOf (own e (afterAll h (c ∷ earlier)))) (eventsTo e h (c ∷ earlier))
+      r .settled ≡ one.settledBy (eventsTo e h (c ∷ earlier))
   ear-settled-exactly c earlier r q = call-reports e (afterAll h earlier) (ear-always-fit earlier) c r q ∙ ear-marked-exactly (c ∷ earlier)
 
 pub ear-agreement : (e : WhichEar) (a b : Headset) → Arrays a → Arrays b → one.Fit (own e a) → one.Fit (own e b) →

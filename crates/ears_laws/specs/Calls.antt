@@ -154,4 +154,4 @@ eventsTo e h calls = earEvents (own e h) (callsOf e h calls)
 -- The same ear of two headsets has accepted the limit's number of inactive frames in a row, with no start and no loss mark of its own, each with
 -- refused frames of its own in between, and the ear's samples of those inactive frames were the same.
 abbrev pub EarsSettleAlike : WhichEar → Headset → Headset → List Call → List Call → Type 0
-EarsSettleAlike e a b calls-a calls-b = one.QuietAlike (one.limitOf (own e a)) (eventsTo e a calls-a) (eventsTo e b calls-b)
+EarsSettleAlike e a b calls-a calls-b = one.QuietAlike (eventsTo e a calls-a) (eventsTo e b calls-b)

@@ -33,6 +33,6 @@ fitRing r = fitAs r (configOf (r .marks .rate) (r .marks .duration))
 -- after a frame: the marks, and the block that follows
 abbrev pub movedOn : Registers → Plan → Registers
 movedOn r plan = record {
-  marks = nextMarks (r .marks) (plan .config .«n_ms») (plan .active) (plan .lag);
+  marks = nextMarks (r .marks) (plan .active) (plan .lag);
   «block_start_index» = nextBlock (plan .config .history) (plan .config .nf) (r .«block_start_index»);
 }

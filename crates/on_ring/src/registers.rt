@@ -72,10 +72,9 @@ pub fn move_on(registers: Registers, plan: Plan) -> Registers
 {
     let marks = registers.marks;
     let config = plan.config;
-    let n_ms = config.n_ms;
     let lag = plan.lag;
     Registers {
-        marks: advance(marks, n_ms, plan.active, lag),
+        marks: advance(marks, plan.active, lag),
         block_start_index: next_block(config.history, config.nf, registers.block_start_index),
     }
 }

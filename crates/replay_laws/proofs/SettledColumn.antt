@@ -1,18 +1,16 @@
 -- THE SETTLED COLUMN. `by-calls`: after any lines the decoder is what the calls of those lines leave from a start. `settled-column`: where a line
 -- shows whether the decoder is settled, that is what the settled rule says of those calls, the line's own among them.
 use Prim.Native.Nat.{ℕ}
-use mathlib.Core.Path.{_≡_, refl, sym, ap, _∙_, subst}
+use mathlib.Core.Path.{_≡_, refl, sym, ap, _∙_}
 use mathlib.Core.Bool.{Bool, true, false, cond}
 use mathlib.Core.List.{List, [], _∷_, _++_}
 use native.Mathlib.Omega.{arith}
 use Rattle.rates.specs.declared.answer.Answer.the-variants.{WrongFrameNumber}
-use Rattle.control.specs.State.{settledLimit}
 use Rattle.judging.specs.Judge.{judged}
 use Rattle.judging.specs.declared.plan.Verdict.{Verdict}
 use Rattle.decoder.specs.State.{fitDecoder}
 use Rattle.decoder.specs.declared.state.Decoder.{Decoder}
-use Rattle.settling_laws.specs.Calls.{Call, after, reply, fromStart, eventsFrom, settledBy, FitState}
-use Rattle.settling_laws.proofs.Held.{limit-found}
+use Rattle.settling_laws.specs.Calls.{Call, after, reply, fromStart, eventsFrom, settledBy}
 use Rattle.settling_laws.proofs.SettledExactly.{settled-exactly}
 use Rattle.lines.specs.Listings.{afterLines}
 use Rattle.entries.specs.Lines.{lineRead}
@@ -22,10 +20,8 @@ use Rattle.replaying.specs.Frames.{dashedRow}
 use Rattle.replaying.specs.Steps.{follows}
 use Rattle.replaying.specs.declared.frame.Columns.{Columns}
 use Rattle.replaying.specs.declared.frame.Shown.{Shown}
-use Rattle.replay_laws.specs.Whole.{Setting, Usable, Between, first, shownBy, given, callOf, shownOf, calledRow, countedLine, skippedLine, movedBy, rowOf, replayRules}
+use Rattle.replay_laws.specs.Whole.{Setting, Between, first, shownBy, given, callOf, shownOf, calledRow, countedLine, skippedLine, movedBy, rowOf, replayRules}
 use Rattle.replay_laws.specs.Made.{madeBy, callsOf}
-use Rattle.replay_laws.proofs.OneCall.{first-fit, same-call}
-use Rattle.replay_laws.proofs.OneLine.{lines-fit}
 
 module _ (setting : Setting) where
   abbrev started : List Call → Decoder
@@ -63,7 +59,7 @@ abbrev shows : Shown → Bool
 shows Shown.Dashes = false
 shows (Shown.Columns c) = c .settled
 
-module _ (setting : Setting) (usable : Usable setting) where
+module _ (setting : Setting) where
   -- a call shows the report that it gives, or none
   shown-settled : (d : Decoder) (content : Content) (c : Columns) → shownOf setting d content ≡ Shown.Columns c → c .settled ≡ reply d (callOf setting content) .settled
   shown-settled d Content.Lost c e = let z : _≡_ {A = ℕ} 0 1 = cc in absurd (omega arith)
@@ -75,16 +71,9 @@ module _ (setting : Setting) (usable : Usable setting) where
       go (Verdict.Refused answer) q = let z : _≡_ {A = ℕ} 0 1 = cc in absurd (omega arith)
       go (Verdict.Accepted plan) q = sym (ap shows q)
 
-  -- the report, by the settled rule
-  reported : (calls : List Call) → FitState (setting .config) (started setting calls) → (content : Content) →
-      reply (started setting calls) (callOf setting content) .settled ≡ settledBy (settledLimit (setting .config .«n_ms»)) (eventsFrom (setting .rate) (setting .duration) (callOf setting content ∷ calls))
-  reported calls fit content =
-      let limit = limit-found (setting .config) (started setting (callOf setting content ∷ calls)) (same-call setting usable (started setting calls) fit content .stays-fit) in
-      settled-exactly (setting .rate) (setting .duration) (callOf setting content) calls ∙ ap (λ (n : ℕ). settledBy n (eventsFrom (setting .rate) (setting .duration) (callOf setting content ∷ calls))) limit
-
   pub settled-column : (ls : List (List ℕ)) (line : List ℕ) (c : Columns) →
       rowOf setting (afterLines (replayRules setting) (first setting) ls) (lineRead line) .shown ≡ Shown.Columns c →
-      c .settled ≡ settledBy (settledLimit (setting .config .«n_ms»)) (eventsFrom (setting .rate) (setting .duration) (callsOf setting (first setting) (ls ++ (line ∷ [])) []))
+      c .settled ≡ settledBy (eventsFrom (setting .rate) (setting .duration) (callsOf setting (first setting) (ls ++ (line ∷ [])) []))
   settled-column ls line c e = rw (calls-append setting (first setting) [] ls line) (go (lineRead line) e)
     where
       s : Between
@@ -94,16 +83,16 @@ module _ (setting : Setting) (usable : Usable setting) where
       calls = callsOf setting (first setting) ls []
 
       called : (content : Content) → shownOf setting (s .decoder) content ≡ Shown.Columns c →
-          c .settled ≡ settledBy (settledLimit (setting .config .«n_ms»)) (eventsFrom (setting .rate) (setting .duration) (callOf setting content ∷ calls))
+          c .settled ≡ settledBy (eventsFrom (setting .rate) (setting .duration) (callOf setting content ∷ calls))
       called content q =
-          let fit = subst (FitState (setting .config)) (by-calls setting ls) (lines-fit setting usable (first setting) (first-fit setting usable) ls) in
-          shown-settled (s .decoder) content c q ∙ ap (λ (d : Decoder). reply d (callOf setting content) .settled) (by-calls setting ls) ∙ reported calls fit content
+          shown-settled (s .decoder) content c q ∙ ap (λ (d : Decoder). reply d (callOf setting content) .settled) (by-calls setting ls)
+          ∙ settled-exactly (setting .rate) (setting .duration) (callOf setting content) calls
 
-      go : (l : Line) → rowOf setting s l .shown ≡ Shown.Columns c → c .settled ≡ settledBy (settledLimit (setting .config .«n_ms»)) (eventsFrom (setting .rate) (setting .duration) (madeBy setting (s .last) l calls))
+      go : (l : Line) → rowOf setting s l .shown ≡ Shown.Columns c → c .settled ≡ settledBy (eventsFrom (setting .rate) (setting .duration) (madeBy setting (s .last) l calls))
       go Line.Malformed q = let z : _≡_ {A = ℕ} 0 1 = cc in absurd (omega arith)
       go (Line.Entry x) q = pick (follows (s .last) (x .frame)) q
         where
           pick : (b : Bool) → cond b (calledRow setting (s .decoder) (x .content)) (dashedRow WrongFrameNumber) .shown ≡ Shown.Columns c →
-              c .settled ≡ settledBy (settledLimit (setting .config .«n_ms»)) (eventsFrom (setting .rate) (setting .duration) (cond b (callOf setting (x .content) ∷ calls) calls))
+              c .settled ≡ settledBy (eventsFrom (setting .rate) (setting .duration) (cond b (callOf setting (x .content) ∷ calls) calls))
           pick true p = called (x .content) p
           pick false p = let z : _≡_ {A = ℕ} 0 1 = cc in absurd (omega arith)

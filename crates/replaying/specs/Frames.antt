@@ -36,7 +36,7 @@ acceptedAs plan pitch next =
 -- a refused frame changes nothing; an accepted one moves the marks on
 abbrev pub playedBy : Marks → PitchRecord → Verdict → Played
 playedBy r pitch (Verdict.Refused answer) = record { marks = r; row = dashedRow answer }
-playedBy r pitch (Verdict.Accepted plan) = acceptedAs plan pitch (nextMarks r (plan .config .«n_ms») (plan .active) (plan .lag))
+playedBy r pitch (Verdict.Accepted plan) = acceptedAs plan pitch (nextMarks r (plan .active) (plan .lag))
 
 -- a loss mark checks 9 only
 abbrev pub lostWith : Marks → Configured → Played

@@ -64,10 +64,8 @@ fn play(marks: Marks, pitch: PitchRecord, verdict: Verdict) -> Played
             row: dashed_row(answer),
         },
         Verdict::Accepted(plan) => {
-            let config = plan.config;
-            let n_ms = config.n_ms;
             let lag = plan.lag;
-            let next = advance(marks, n_ms, plan.active, lag);
+            let next = advance(marks, plan.active, lag);
             let told = told_of(plan, pitch);
             let settled = next.settled;
             Played {

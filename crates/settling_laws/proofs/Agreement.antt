@@ -9,7 +9,7 @@ use Rattle.rates.specs.declared.config.Lc3Config.{Lc3Config}
 use Rattle.rates.specs.declared.config.Configured.the-variants.{Config}
 use Rattle.decoder.specs.declared.state.Decoder.{Decoder}
 use Rattle.settling_laws.specs.Calls.{Given, Call, frame, afterAll, replies, events, heard, FitState, Fit, SettleAlike}
-use Rattle.settling_laws.proofs.Held.{held, limit-found}
+use Rattle.settling_laws.proofs.Held.{held}
 use Rattle.settling_laws.proofs.Agreeing.{Agree, same-replies}
 use Rattle.settling_laws.proofs.Hearing.{heard-calls}
 use Rattle.settling_laws.proofs.Quieting.{agree-quiet}
@@ -29,7 +29,7 @@ pub settled-alike : (c : Lc3Config) (a b : Decoder) → FitState c a → FitStat
 settled-alike c a b sa sb calls-a calls-b q =
     let ha = heard-calls c a sa calls-a (q .left) in
     let hb = heard-calls c b sb calls-b (q .right) in
-    rw (ha .state, hb .state, ← q .same) (agree-quiet c a b sa sb (heard (events a calls-a)) (ha .long) (q .many ∙ limit-found c a sa))
+    rw (ha .state, hb .state, ← q .same) (agree-quiet c a b sa sb (heard (events a calls-a)) (ha .long) (q .many))
 
 pub agreement : (a b : Decoder) → Fit a → Fit b → a .registers .marks .rate ≡ b .registers .marks .rate → a .registers .marks .duration ≡ b .registers .marks .duration →
     (calls-a calls-b : List Call) → SettleAlike a b calls-a calls-b →

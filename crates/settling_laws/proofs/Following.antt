@@ -27,14 +27,14 @@ use Rattle.settling_laws.proofs.Counting.{Counted, counted-anew, counte
 pub record Followed (d : Decoder) (es : List Event) : Type 0 where
   pub config : Lc3Config
   pub fit : FitState config d
-  pub counted : Counted config d es
+  pub counted : Counted d es
 
 followed-start : (rate duration : ℕ) (es : List Event) → since es ≡ [] → Followed (started rate duration .decoder) es
 unfolding cleared clearedMarks
 followed-start rate duration es e =
     let f = started-fit rate duration in
     let k = clear (configOf rate duration) in
-    record { config = f .0; fit = f .1; counted = counted-anew (f .0) (started rate duration .decoder) es (k .0) (k .1) e }
+    record { config = f .0; fit = f .1; counted = counted-anew (started rate duration .decoder) es (k .0) (k .1) e }
   where
     clear : (k : Configured) → (startedWith rate duration k .decoder .registers .marks .run ≡ 0) × (startedWith rate duration k .decoder .registers .marks .settled ≡ false)
     clear (Config c) = (refl, refl)
@@ -49,7 +49,7 @@ followed-after d es (frame f) k =
 followed-after d es loss k =
     let c = k .config in
     rw (after-lost c d (k .fit))
-    (record { config = c; fit = unsettled-fit c d (k .fit); counted = counted-anew c (unsettledDecoder d) (restart ∷ es) refl refl refl })
+    (record { config = c; fit = unsettled-fit c d (k .fit); counted = counted-anew (unsettledDecoder d) (restart ∷ es) refl refl refl })
 
 -- a call reports the mark of the state that it leaves
 pub reports-mark : (k : Lc3Config) (d : Decoder) → FitState k d → (c : Call) → reply d c .settled ≡ after d c .registers .marks .settled

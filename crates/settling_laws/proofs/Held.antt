@@ -1,19 +1,12 @@
--- What is known of a fit state: its parts, its limit, and the lengths of its pasts.
-use Prim.Native.Nat.{ℕ, _+_, _≤_}
-use mathlib.Core.Path.{_≡_, refl, ap}
+-- What is known of a fit state: its parts, and the lengths of its pasts.
+use Prim.Native.Nat.{_+_, _≤_}
+use mathlib.Core.Path.{_≡_}
 use mathlib.Core.Bool.{true}
 use mathlib.Core.List.{List}
 use native.Mathlib.Omega.{arith}
 use lib.Ieee.{Float}
 use lib.ListN.{length}
-use Rattle.rates.specs.Table.{rowOf}
-use Rattle.rates.specs.Durations.{durationOf}
-use Rattle.rates.specs.Configs.{frameOf, historyOf, configured, configOf}
-use Rattle.rates.specs.declared.table.FoundRate.{FoundRate}
-use Rattle.rates.specs.declared.duration.FoundDuration.{FoundDuration}
 use Rattle.rates.specs.declared.config.Lc3Config.{Lc3Config}
-use Rattle.rates.specs.declared.config.Configured.the-variants.{Config}
-use Rattle.control.specs.State.{settledLimit}
 use Rattle.control.proofs.Sizes.{FromTable, from-table, Sized, sized}
 use Rattle.control.proofs.Fit.{Fits}
 use Rattle.rings.specs.Ring.{straight}
@@ -21,19 +14,7 @@ use Rattle.on_ring.specs.Registers.{blockFits}
 use Rattle.decoder.specs.declared.state.Decoder.{Decoder}
 use Rattle.rings.proofs.StraightLines.{length-straight}
 use Rattle.on_ring.proofs.RingFits.{ring-fits, block-inside}
-use Rattle.settling_laws.specs.Calls.{limitOf, FitState}
-
--- the duration of a configuration
-duration-found : (hz us : ℕ) (c : Lc3Config) → configOf hz us ≡ Config c → durationOf us ≡ FoundDuration.Duration (c .«n_ms»)
-duration-found hz us c e = go (rowOf hz) (durationOf us) refl e
-  where
-    go : (r : FoundRate) (d : FoundDuration) → durationOf us ≡ d → configured r d ≡ Config c → d ≡ FoundDuration.Duration (c .«n_ms»)
-    go FoundRate.Unknown d p q = let z : _≡_ {A = ℕ} 0 1 = cc in absurd (omega arith)
-    go (FoundRate.Row row) FoundDuration.Unknown p q = let z : _≡_ {A = ℕ} 0 1 = cc in absurd (omega arith)
-    go (FoundRate.Row row) (FoundDuration.Duration d) p q =
-        let made : Lc3Config = record { fs = row; «n_ms» = d; nf = frameOf row d; history = historyOf row d } in
-        let same : made ≡ c = cc in
-        ap (λ (k : Lc3Config). FoundDuration.Duration (k .«n_ms»)) same
+use Rattle.settling_laws.specs.Calls.{FitState}
 
 -- the straight pasts of a state
 abbrev pub past-x : Lc3Config → Decoder → List Float
@@ -68,7 +49,3 @@ held c d s =
       long-x = length-straight (d .«x_hat_mem») (c .history) (d .registers .«block_start_index») (omega arith) (omega (arith, s .inputs));
       long-y = length-straight (d .«x_hat_ltpf_mem») (c .history) (d .registers .«block_start_index») (omega arith) (omega (arith, s .outputs));
     }
-
--- the limit of a fit state
-pub limit-found : (c : Lc3Config) (d : Decoder) → FitState c d → limitOf d ≡ settledLimit (c .«n_ms»)
-limit-found c d s = rw (duration-found (d .registers .marks .rate) (d .registers .marks .duration) c (held c d s .fitting .config))

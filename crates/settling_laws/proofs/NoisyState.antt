@@ -44,7 +44,7 @@ use Rattle.settling_laws.proofs.Silence.{longest, longest-fits, silent,
 -- a start's, but for its past outputs and its last frame
 abbrev pub noisy : ℕ → ℕ → Lc3Config → Decoder
 noisy rate duration c = record {
-  registers = record { marks = nextMarks (clearedMarks rate duration) (c .«n_ms») true (longest (c .fs)); «block_start_index» = 0 };
+  registers = record { marks = nextMarks (clearedMarks rate duration) true (longest (c .fs)); «block_start_index» = 0 };
   kept = replicate 24 0·0;
   «x_hat_mem» = replicate 1080 0·0;
   «x_hat_ltpf_mem» = replicate 1080 nan;

@@ -20,7 +20,6 @@ use Rattle.control.specs.State.{settledLimit}
 use Rattle.judging.specs.Filters.{keptFilter}
 use Rattle.control.specs.Next.{nextMarks}
 use Rattle.control.proofs.Sizes.{sized}
-use Rattle.control.proofs.Fit.{limit-some}
 use Rattle.control.proofs.Reaching.{reach, reach-within, limit-enough}
 use Rattle.rings.specs.Samples.{filtered}
 use Rattle.decoder.specs.Frame.{accepted}
@@ -137,9 +136,9 @@ module _ (c : Lc3Config) (a b : Decoder) (sa : FitState c a) (sb : FitState c b)
 
 -- the limit's number of inactive frames makes two states agree
 pub agree-quiet : (c : Lc3Config) (a b : Decoder) → FitState c a → FitState c b → (ss : List (List Float)) → AllLong (c .nf) ss →
-    length ss ≡ settledLimit (c .«n_ms») → Agree c (quietAll c a ss) (quietAll c b ss)
+    length ss ≡ settledLimit → Agree c (quietAll c a ss) (quietAll c b ss)
 unfolding accepted nextMarks
-agree-quiet c a b sa sb [] l many = absurd (omega (arith, limit-some (c .«n_ms»)))
+agree-quiet c a b sa sb [] l many = absurd (omega arith)
 agree-quiet c a b sa sb (s ∷ earlier) l many =
     let n = near-quiet c a b sa sb s earlier l in
     let ra = at-limit c a (s ∷ earlier) many (n .left) in
@@ -147,7 +146,7 @@ agree-quiet c a b sa sb (s ∷ earlier) l many =
     let k = held c a sa .from in
     let z = sized c k in
     let w = reach-within c k in
-    let all : settledLimit (c .«n_ms») * c .nf ≡ length earlier * c .nf + c .nf = rw (← many) (suc-mul (length earlier) (c .nf)) in
+    let all : settledLimit * c .nf ≡ length earlier * c .nf + c .nf = rw (← many) (suc-mul (length earlier) (c .nf)) in
     let far : reach (c .fs) ≤ length earlier * c .nf + (c .nf - c .fs .fade) = omega (arith, limit-enough c k) in
     record {
       left = n .left;

@@ -7,8 +7,8 @@ use mathlib.Core.Path.{_≡_, _∙_}
 use mathlib.Core.List.{List, _∷_}
 use native.Mathlib.Omega.{arith}
 use Rattle.rates.specs.Answers.{numberOf}
-use Rattle.settling_laws.specs.Calls.{Call, reply, fromStart, eventsFrom, limitOf, settledBy, Fit}
-use Rattle.settling_laws.proofs.Held.{limit-found}
+use Rattle.control.specs.State.{settledLimit}
+use Rattle.settling_laws.specs.Calls.{Call, reply, fromStart, eventsFrom, settledBy, Fit}
 use Rattle.settling_laws.proofs.Following.{followed, reports-mark, answer-small}
 
 module _ (rate duration : ℕ) where
@@ -19,17 +19,16 @@ module _ (rate duration : ℕ) where
   never-unfit-answer c earlier e =
       let k = followed rate duration earlier in omega (arith, answer-small (k .config) (fromStart rate duration earlier) (k .fit) c)
 
-  pub run-within-limit : (calls : List Call) → fromStart rate duration calls .registers .marks .run ≤ limitOf (fromStart rate duration calls)
-  run-within-limit calls = let k = followed rate duration calls in rw (limit-found (k .config) (fromStart rate duration calls) (k .fit)) (omega (arith, k .counted .run))
+  pub run-within-limit : (calls : List Call) → fromStart rate duration calls .registers .marks .run ≤ settledLimit
+  run-within-limit calls = omega (arith, followed rate duration calls .counted .run)
 
   -- the mark in the state
   pub marked-exactly : (calls : List Call) →
-      fromStart rate duration calls .registers .marks .settled ≡ settledBy (limitOf (fromStart rate duration calls)) (eventsFrom rate duration calls)
-  marked-exactly calls = let k = followed rate duration calls in rw (limit-found (k .config) (fromStart rate duration calls) (k .fit)) (k .counted .settled)
+      fromStart rate duration calls .registers .marks .settled ≡ settledBy (eventsFrom rate duration calls)
+  marked-exactly calls = followed rate duration calls .counted .settled
 
   -- the report that a call gives
   pub settled-exactly : (c : Call) (earlier : List Call) →
-      reply (fromStart rate duration earlier) c .settled ≡
-      settledBy (limitOf (fromStart rate duration (c ∷ earlier))) (eventsFrom rate duration (c ∷ earlier))
+      reply (fromStart rate duration earlier) c .settled ≡ settledBy (eventsFrom rate duration (c ∷ earlier))
   settled-exactly c earlier =
       let k = followed rate duration earlier in reports-mark (k .config) (fromStart rate duration earlier) (k .fit) c ∙ marked-exactly (c ∷ earlier)

@@ -11,12 +11,10 @@ use Rattle.call_laws.proofs.Both as both
 use Rattle.rates.specs.declared.config.Lc3Config.{Lc3Config}
 use Rattle.control.specs.State.{settledLimit}
 use Rattle.judging.specs.Pitch.{isActive}
-use Rattle.control.proofs.Fit.{limit-some}
 use Rattle.judging.proofs.Judging.{declined, passed}
 use Rattle.decoder.specs.declared.state.Decoder.{Decoder}
 use Rattle.settling_laws.specs.Calls.{Given, Call, frame, decoderWith, frames, afterAll, Event, restart, quiet, active, refusal, event, events, since, row, longest, still, heard, FitState}
 use Rattle.settling_laws.proofs.Judging.{OutcomeOf, outcomeOf, happened, event-judged}
-use Rattle.settling_laws.proofs.Held.{limit-found}
 use Rattle.settling_laws.proofs.FitStates.{frames-fit}
 use Rattle.settling_laws.proofs.Agreeing.{Agree, agree-frames}
 use Rattle.settling_laws.proofs.Agreement.{settled-alike}
@@ -80,7 +78,7 @@ map-both (f ∷ late) early = rw (map-both late early)
 
 -- frames that hold the limit's number of inactive ones in a row make two states agree
 module _ (c : Lc3Config) (a b : Decoder) (sa : FitState c a) (sb : FitState c b) where
-  agree-window : (fs : List Given) → Window c (settledLimit (c .«n_ms»)) fs → Agree c (afterAll a (map frame fs)) (afterAll b (map frame fs))
+  agree-window : (fs : List Given) → Window c settledLimit fs → Agree c (afterAll a (map frame fs)) (afterAll b (map frame fs))
   agree-window fs w =
       let early = map frame (w .early) in
       let late = map frame (w .late) in
@@ -95,19 +93,16 @@ module _ (c : Lc3Config) (a b : Decoder) (sa : FitState c a) (sb : FitState c b)
         left = rw ea (w .quiet-only);
         right = rw eb (w .quiet-only);
         same = ap heard (ea ∙ sym eb);
-        many = rw ea (w .many) ∙ sym (limit-found c (afterAll a early) fa);
+        many = rw ea (w .many);
       }))
 
-  pub agree-shared : (fs : List Given) → settledLimit (c .«n_ms») ≤ longest (happenings c fs) → Agree c (afterAll a (map frame fs)) (afterAll b (map frame fs))
-  agree-shared [] h = absurd (omega (arith, limit-some (c .«n_ms»)))
-  agree-shared (f ∷ earlier) h = go (leb limit (longest (happenings c earlier))) refl (agree-shared earlier)
+  pub agree-shared : (fs : List Given) → settledLimit ≤ longest (happenings c fs) → Agree c (afterAll a (map frame fs)) (afterAll b (map frame fs))
+  agree-shared [] h = absurd (omega arith)
+  agree-shared (f ∷ earlier) h = go (leb settledLimit (longest (happenings c earlier))) refl (agree-shared earlier)
     where
-      limit : ℕ
-      limit = settledLimit (c .«n_ms»)
-
-      go : (t : Bool) → leb limit (longest (happenings c earlier)) ≡ t →
-          (limit ≤ longest (happenings c earlier) → Agree c (afterAll a (map frame earlier)) (afterAll b (map frame earlier))) →
+      go : (t : Bool) → leb settledLimit (longest (happenings c earlier)) ≡ t →
+          (settledLimit ≤ longest (happenings c earlier) → Agree c (afterAll a (map frame earlier)) (afterAll b (map frame earlier))) →
           Agree c (afterAll a (map frame (f ∷ earlier))) (afterAll b (map frame (f ∷ earlier)))
       go true p before =
-          agree-frames c (afterAll a (map frame earlier)) (afterAll b (map frame earlier)) (before (leb-true limit (longest (happenings c earlier)) p)) (f ∷ [])
-      go false p before = agree-window (f ∷ earlier) (window c limit (f ∷ earlier) (omega (arith, leb-false limit (longest (happenings c earlier)) p)))
+          agree-frames c (afterAll a (map frame earlier)) (afterAll b (map frame earlier)) (before (leb-true settledLimit (longest (happenings c earlier)) p)) (f ∷ [])
+      go false p before = agree-window (f ∷ earlier) (window c settledLimit (f ∷ earlier) (omega (arith, leb-false settledLimit (longest (happenings c earlier)) p)))

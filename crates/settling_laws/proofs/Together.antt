@@ -11,18 +11,14 @@ use mathlib.Core.List.{List, [], _∷_, _++_, map}
 use native.Mathlib.Omega.{arith}
 use borrow.Author.Tests.{leb-true, le-leb}
 use lib.ListN.{length}
-use Rattle.rates.specs.Durations.{durationOf}
 use Rattle.rates.specs.declared.config.Lc3Config.{Lc3Config}
 use Rattle.control.specs.State.{settledLimit}
 use Rattle.decoder.specs.State.{started}
 use Rattle.decoder.specs.declared.state.Decoder.{Decoder}
-use Rattle.settling_laws.specs.Calls.{Given, Call, frame, afterAll, fromStart, replies, Event, restart, quiet, active, refusal, events, eventsFrom, since, row, longest, still, heard, limitFor, limitOf, FitState, SettleAlike}
-use Rattle.settling_laws.proofs.Held.{limit-found}
-use Rattle.settling_laws.proofs.FitStates.{frames-fit}
+use Rattle.settling_laws.specs.Calls.{Given, Call, frame, afterAll, fromStart, replies, Event, restart, quiet, active, refusal, events, eventsFrom, since, row, longest, still, heard, FitState, SettleAlike}
 use Rattle.settling_laws.proofs.Counting.{row-longest}
 use Rattle.settling_laws.proofs.SettledExactly.{always-fit, marked-exactly}
 use Rattle.settling_laws.proofs.Agreeing.{Agree, same-replies}
-use Rattle.settling_laws.proofs.Hearing.{heard-calls}
 use Rattle.settling_laws.proofs.Agreement.{same-config, agreement}
 use Rattle.settling_laws.proofs.Shared.{happenings, events-happen, since-frames, after-both, events-both, agree-shared}
 
@@ -37,33 +33,28 @@ heard-row (refusal ∷ late) early q = heard-row late early q
 -- what the report says of frames since a restart, and of a row of inactive frames
 module _ (rate duration : ℕ) (before : List Call) where
   reported-frames : (c : Lc3Config) → FitState c (fromStart rate duration before) → since (eventsFrom rate duration before) ≡ [] → (fs : List Given) →
-      afterAll (fromStart rate duration before) (map frame fs) .registers .marks .settled ≡ true → settledLimit (c .«n_ms») ≤ longest (happenings c fs)
+      afterAll (fromStart rate duration before) (map frame fs) .registers .marks .settled ≡ true → settledLimit ≤ longest (happenings c fs)
   reported-frames c s anew fs settled =
       let d = fromStart rate duration before in
       let state = after-both (started rate duration .decoder) (map frame fs) before in
       let mark = marked-exactly rate duration (map frame fs ++ before) in
-      let limit : limitOf (fromStart rate duration (map frame fs ++ before)) ≡ settledLimit (c .«n_ms») =
-      rw state (limit-found c (afterAll d (map frame fs)) (frames-fit c d s fs)) in
       let all : since (eventsFrom rate duration (map frame fs ++ before)) ≡ happenings c fs =
       rw (events-both (started rate duration .decoder) (map frame fs) before, events-happen c d s fs)
       (since-frames c fs (eventsFrom rate duration before) anew) in
-      leb-true (settledLimit (c .«n_ms»)) (longest (happenings c fs))
-      (sym (rw (limit, all) at mark) ∙ rw state settled)
+      leb-true settledLimit (longest (happenings c fs)) (sym (rw all at mark) ∙ rw state settled)
 
-  reported-row : (c : Lc3Config) → FitState c (fromStart rate duration before) → (calls : List Call) →
+  reported-row : (calls : List Call) →
       still (events (fromStart rate duration before) calls) ≡ true →
-      length (heard (events (fromStart rate duration before) calls)) ≡ limitOf (fromStart rate duration before) →
+      length (heard (events (fromStart rate duration before) calls)) ≡ settledLimit →
       afterAll (fromStart rate duration before) calls .registers .marks .settled ≡ true
-  reported-row c s calls q many =
+  reported-row calls q many =
       let d = fromStart rate duration before in
       let was = eventsFrom rate duration (calls ++ before) in
       let state = after-both (started rate duration .decoder) calls before in
-      let limit : limitOf (fromStart rate duration (calls ++ before)) ≡ limitOf d =
-      rw state (limit-found c (afterAll d calls) (heard-calls c d s calls q .fit) ∙ sym (limit-found c d s)) in
       let heard-all : length (heard (events d calls)) ≤ row (since was) =
       rw (events-both (started rate duration .decoder) calls before) (heard-row (events d calls) (eventsFrom rate duration before) q) in
       ap (λ (e : Decoder). e .registers .marks .settled) (sym state) ∙ marked-exactly rate duration (calls ++ before)
-      ∙ le-leb (limitOf (fromStart rate duration (calls ++ before))) (longest (since was)) (omega (arith, row-longest (since was)))
+      ∙ le-leb settledLimit (longest (since was)) (omega (arith, row-longest (since was)))
 
 -- decoders from a start, each with calls of its own, of one rate and duration
 module _ (rate-a duration-a rate-b duration-b : ℕ) (before-a before-b : List Call)
@@ -97,8 +88,8 @@ module _ (rate-a duration-a rate-b duration-b : ℕ) (before-a before-b : List C
   together-since-settling calls-a calls-b q =
       let fa = always-fit rate-a duration-a before-a in
       let fb = always-fit rate-b duration-b before-b in
-      let many-b = ap length (sym (q .same)) ∙ q .many ∙ ap (λ (us : ℕ). limitFor (durationOf us)) durations in (
-        reported-row rate-a duration-a before-a (fa .0) (fa .1) calls-a (q .left) (q .many),
-        reported-row rate-b duration-b before-b (fb .0) (fb .1) calls-b (q .right) many-b,
+      let many-b = ap length (sym (q .same)) ∙ q .many in (
+        reported-row rate-a duration-a before-a calls-a (q .left) (q .many),
+        reported-row rate-b duration-b before-b calls-b (q .right) many-b,
         agreement (fromStart rate-a duration-a before-a) (fromStart rate-b duration-b before-b) fa fb rates durations calls-a calls-b q,
       )

@@ -9,9 +9,7 @@ use lib.ListN.{length}
 use Rattle.call_laws.specs.Engine as engine
 use Rattle.call_laws.specs.Engine.{Engine}
 use Rattle.rates.specs.Answers.{numberOf}
-use Rattle.rates.specs.Durations.{durationOf}
 use Rattle.rates.specs.declared.answer.Answer.{Answer}
-use Rattle.rates.specs.declared.duration.FoundDuration.{FoundDuration}
 use Rattle.rates.specs.declared.config.Lc3Config.{Lc3Config}
 use Rattle.rates.specs.declared.config.Configured.the-variants.{Config}
 use Rattle.lag.specs.declared.pitch.PitchRecord.{PitchRecord}
@@ -138,17 +136,9 @@ abbrev pub longest : List Event → ℕ
 longest [] = 0
 longest (e ∷ es) = max (row (e ∷ es)) (longest es)
 
--- the limit of a state; a duration that is not in the table, which no fit state has, is given none
-abbrev pub limitFor : FoundDuration → ℕ
-limitFor FoundDuration.Unknown = 0
-limitFor (FoundDuration.Duration t) = settledLimit t
-
-abbrev pub limitOf : Decoder → ℕ
-limitOf d = limitFor (durationOf (d .registers .marks .duration))
-
 -- the settled rule: since the last restart, the limit's number of inactive frames in a row has been reached
-abbrev pub settledBy : ℕ → List Event → Bool
-settledBy limit es = leb limit (longest (since es))
+abbrev pub settledBy : List Event → Bool
+settledBy es = leb settledLimit (longest (since es))
 
 -- nothing but accepted inactive frames and refused frames
 abbrev pub still : List Event → Bool
@@ -175,14 +165,14 @@ pub record FitState (c : Lc3Config) (d : Decoder) : Type 0 where
 abbrev pub Fit : Decoder → Type 0
 Fit d = (c : Lc3Config) × FitState c d
 
--- what calls were to each of two: nothing but accepted inactive frames and refused ones, so many inactive frames, and those with the same samples
-pub record QuietAlike (limit : ℕ) (left-events right-events : List Event) : Type 0 where
+-- what calls were to each of two: nothing but accepted inactive frames and refused ones, the limit's number of inactive frames, and those with the same samples
+pub record QuietAlike (left-events right-events : List Event) : Type 0 where
   pub left : still left-events ≡ true
   pub right : still right-events ≡ true
   pub same : heard left-events ≡ heard right-events
-  pub many : length (heard left-events) ≡ limit
+  pub many : length (heard left-events) ≡ settledLimit
 
 -- Two decoders have accepted the limit's number of inactive frames in a row, with no start and no loss mark, each with refused frames of its own
 -- in between, and the samples of those inactive frames were the same.
 abbrev pub SettleAlike : Decoder → Decoder → List Call → List Call → Type 0
-SettleAlike a b calls-a calls-b = QuietAlike (limitOf a) (events a calls-a) (events b calls-b)
+SettleAlike a b calls-a calls-b = QuietAlike (events a calls-a) (events b calls-b)

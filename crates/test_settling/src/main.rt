@@ -70,7 +70,7 @@ fn differing(a: &[f32; 80], b: &[f32; 80]) -> u64 {
     n
 }
 
-// Writes whether a decoder says that it is settled.
+// Writes whether both decoders say that they are settled.
 fn print_settled(settled: bool) {
     if settled {
         io::write_all(STDOUT_FILENO, b": settled yes");
@@ -100,13 +100,18 @@ fn compare(duration: u32, nf: usize, active: usize, inactive: usize) -> bool
     let mut y = [1.0; 80];
     step(a, true, nf, &mut x);
     step(b, true, nf, &mut y);
-    let registers = a.registers;
-    report(
-        duration,
-        inactive,
-        registers.marks.settled,
-        differing(&x, &y),
-    )
+    let settled = a.registers.marks.settled && b.registers.marks.settled;
+    report(duration, inactive, settled, differing(&x, &y))
+}
+
+// One to four inactive frames after so many equal active ones.
+fn compare_each(duration: u32, nf: usize, active: usize) -> bool
+    requires { ⌜ nf ≤ 80 ⌝ }
+{
+    compare(duration, nf, active, 1)
+        && compare(duration, nf, active, 2)
+        && compare(duration, nf, active, 3)
+        && compare(duration, nf, active, 4)
 }
 
 fn main() {
@@ -117,9 +122,5 @@ fn main() {
     ) {
         return;
     }
-    let _is_written = compare(10000, 80, 1, 2)
-        && compare(10000, 80, 1, 3)
-        && compare(7500, 60, 2, 2)
-        && compare(7500, 60, 2, 3)
-        && compare(7500, 60, 2, 4);
+    let _is_written = compare_each(10000, 80, 1) && compare_each(7500, 60, 2);
 }

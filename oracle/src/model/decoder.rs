@@ -3,6 +3,9 @@ use super::lag::{gain, lag};
 use super::rates::Config;
 use super::{answer, Pitch, Signal, MOST_BITS};
 
+// So many accepted inactive frames in a row settle a decoder.
+pub const SETTLED_LIMIT: u32 = 3;
+
 // The rows of a frame, multiplied by its gain, and its lag.
 #[derive(Clone)]
 pub struct Filter {
@@ -194,8 +197,11 @@ impl Decoder {
 
     // Counts inactive frames in a row, up to the limit at which the report settles.
     fn count(&mut self, inactive: bool) {
-        let limit = if self.config.ten_ms { 3 } else { 4 };
-        self.run = if inactive { limit.min(self.run + 1) } else { 0 };
-        self.settled |= self.run == limit;
+        self.run = if inactive {
+            SETTLED_LIMIT.min(self.run + 1)
+        } else {
+            0
+        };
+        self.settled |= self.run == SETTLED_LIMIT;
     }
 }

@@ -5,54 +5,48 @@ use mathlib.Core.Bool.{Bool, true, false, not, _&&_}
 use native.Mathlib.Omega.{arith}
 use borrow.Author.Tests.{lt-ltb, le-ltb, eq-eqb, ne-eqb, eqb-true, eqb-false}
 use lib.Dec.{ltb, eqb}
-use Rattle.rates.specs.declared.duration.FrameDuration.{FrameDuration}
 use Rattle.control.specs.State.{settledLimit, runFits}
-use Rattle.control.proofs.Fit.{limit-some}
-use borrow.Author.Needs.{needs}
 use Rattle.control.proofs.fitness.run_fits.Statement.{statement}
 use Rattle.control.proofs.fitness.run_fits.Tie as tie
 
 -- after an active frame only an empty run is fit
-active-run : (d : FrameDuration) (run : ℕ) (settled : Bool) → eqb run 0 ≡ runFits d true run settled
+active-run : (run : ℕ) (settled : Bool) → eqb run 0 ≡ runFits true run settled
 unfolding runFits
-active-run d run settled = go (eqb run 0) refl
+active-run run settled = go (eqb run 0) refl
   where
-    go : (b : Bool) → eqb run 0 ≡ b → b ≡ (not (ltb 0 run) && not (ltb (settledLimit d) run) && not (eqb run (settledLimit d) && not settled))
+    go : (b : Bool) → eqb run 0 ≡ b → b ≡ (not (ltb 0 run) && not (ltb settledLimit run) && not (eqb run settledLimit && not settled))
     go true e =
         let none : run ≡ 0 = eqb-true run 0 e in
-        rw (le-ltb 0 run (omega arith), le-ltb (settledLimit d) run (omega arith), ne-eqb run (settledLimit d) (λ q. omega (arith, limit-some d)))
+        rw (le-ltb 0 run (omega arith), le-ltb settledLimit run (omega arith), ne-eqb run settledLimit (λ q. omega arith))
     go false e = rw (lt-ltb 0 run (omega (arith, eqb-false run 0 e)))
 
-module _ (d : FrameDuration) (run : ℕ) where
-  short-run : (settled : Bool) → run < settledLimit d → true ≡ runFits d false run settled
+module _ (run : ℕ) where
+  short-run : (settled : Bool) → run < settledLimit → true ≡ runFits false run settled
   unfolding runFits
-  short-run settled h = rw (le-ltb (settledLimit d) run (omega arith), ne-eqb run (settledLimit d) (λ q. omega arith))
+  short-run settled h = rw (le-ltb settledLimit run (omega arith), ne-eqb run settledLimit (λ q. omega arith))
 
-  full-run : (settled : Bool) → run ≡ settledLimit d → settled ≡ runFits d false run settled
+  full-run : (settled : Bool) → run ≡ settledLimit → settled ≡ runFits false run settled
   unfolding runFits
-  full-run true h = rw (le-ltb (settledLimit d) run (omega arith), eq-eqb run (settledLimit d) h)
-  full-run false h = rw (le-ltb (settledLimit d) run (omega arith), eq-eqb run (settledLimit d) h)
+  full-run true h = rw (le-ltb settledLimit run (omega arith), eq-eqb run settledLimit h)
+  full-run false h = rw (le-ltb settledLimit run (omega arith), eq-eqb run settledLimit h)
 
-  long-run : (settled : Bool) → settledLimit d < run → false ≡ runFits d false run settled
+  long-run : (settled : Bool) → settledLimit < run → false ≡ runFits false run settled
   unfolding runFits
-  long-run settled h = rw (lt-ltb (settledLimit d) run h)
-
-settled-limit-requires : tie.Need-settled-limit-requires
-settled-limit-requires c κs = search needs
+  long-run settled h = rw (lt-ltb settledLimit run h)
 
 returns : tie.Need-returns
-returns c = rw (c .if1 .taken) (active-run _ (c .before .before .args .run) _)
+returns c = rw (c .if1 .taken) (active-run (c .before .args .run) _)
 
 returns-2 : tie.Need-returns-2
-returns-2 c = rw (c .before .if1 .left) (short-run _ _ _ (rw (c .before .before .settled-limit .ensures) at (c .if2 .taken)))
+returns-2 c = rw (c .before .if1 .left) (short-run _ _ (c .if2 .taken))
 
 returns-3 : tie.Need-returns-3
-returns-3 c = rw (c .before .before .if1 .left) (full-run _ _ _ (rw (c .before .before .before .settled-limit .ensures) at (c .if3 .taken)))
+returns-3 c = rw (c .before .before .if1 .left) (full-run _ _ (c .if3 .taken))
 
 returns-4 : tie.Need-returns-4
 returns-4 c =
-    let a = c .before .before .before .before .args in
-    rw (c .before .before .if1 .left) (long-run (a .n-ms) (a .run) _ (omega (arith, c .before .before .before .settled-limit .ensures)))
+    let a = c .before .before .before .args in
+    rw (c .before .before .if1 .left) (long-run (a .run) _ (omega arith))
 
 pub run-fits-spec : {M : Type 1} → statement M
-run-fits-spec = tie.close (tie.spec settled-limit-requires returns returns-2 returns-3 returns-4)
+run-fits-spec = tie.close (tie.spec returns returns-2 returns-3 returns-4)

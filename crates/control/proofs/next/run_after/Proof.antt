@@ -4,9 +4,6 @@ use borrow.Author.Needs.{needs}
 use Rattle.control.proofs.next.run_after.Statement.{statement}
 use Rattle.control.proofs.next.run_after.Tie as tie
 
-settled-limit-requires : tie.Need-settled-limit-requires
-settled-limit-requires c κs = search needs
-
 returns : tie.Need-returns
 returns c = rw (c .if1 .taken)
 
@@ -14,10 +11,10 @@ add-result : tie.Need-add-result
 add-result c = search needs
 
 returns-2 : tie.Need-returns-2
-returns-2 c = rw (c .before .if1 .left) (omega (arith, c .before .before .settled-limit .ensures))
+returns-2 c = rw (c .before .if1 .left) (omega arith)
 
 returns-3 : tie.Need-returns-3
-returns-3 c = rw (c .before .if1 .left) (omega (arith, c .before .before .settled-limit .ensures))
+returns-3 c = rw (c .before .if1 .left) (omega arith)
 
 pub run-after-spec : {M : Type 1} → statement M
-run-after-spec = tie.close (tie.spec settled-limit-requires returns add-result returns-2 returns-3)
+run-after-spec = tie.close (tie.spec returns add-result returns-2 returns-3)

@@ -11,7 +11,7 @@ returns-2 c =
     rw (
       c .told-of .ensures,
       c .before .advance .ensures,
-      c .before .before .before .before .before .verdict2 .given .1,
+      c .before .before .before .before .verdict2 .given .1,
     )
 
 pub play-spec : {M : Type 1} → statement M
