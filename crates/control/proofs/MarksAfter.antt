@@ -1,7 +1,7 @@
 -- ONE CALL AND ITS MARKS. What a start, a frame and a loss mark do to the run of inactive frames and to the settled mark, said without the
 -- definitions that the program computes them by.
 use Prim.Native.Nat.{ℕ, _+_, _≤_, _<_, min}
-use mathlib.Core.Path.{_≡_, refl}
+use mathlib.Core.Path.{_≡_, refl, ap}
 use mathlib.Core.Bool.{Bool, true, false, not, _&&_, _||_}
 use native.Mathlib.Omega.{arith}
 use borrow.Author.Tests.{leb-true, leb-false, eq-eqb, ne-eqb}
@@ -52,4 +52,4 @@ module _ (m : Marks) (active : Bool) (lag : Lag) where
   -- settled: it was so, or this is an inactive frame that makes the run as long as the limit
   pub settles-exactly : nextMarks m active lag .settled ≡ (m .settled || (not active && leb settledLimit (m .run + 1)))
   unfolding nextMarks
-  settles-exactly = rw (reaches active (m .run))
+  settles-exactly = ap (λ (b : Bool). m .settled || b) (reaches active (m .run))
