@@ -1,6 +1,6 @@
 -- HOW SMALL THE LIMIT MAY BE. Two frames are shorter than what a filter of the longest lag reaches and a fade, in every row of the table and at
 -- both durations: after two inactive frames such a filter still reads a sample of the first one's fade, or one before it. So no number of
--- frames below the limit is enough.
+-- frames below the limit holds both.
 use Prim.Native.Nat.{ℕ, zero, suc, _+_, _*_, _≤_, _<_}
 use mathlib.Core.Path.{_≡_}
 use native.Mathlib.Omega.{arith}

@@ -4,7 +4,7 @@ use mathlib.Core.Path.{_≡_, refl, _∙_}
 use mathlib.Core.Bool.{Bool, true, false, cond, _||_, or-false, not, _&&_}
 use mathlib.Core.List.{List, [], _∷_}
 use native.Mathlib.Omega.{arith}
-use borrow.Author.Tests.{leb-true, leb-false, lt-leb, eq-eqb}
+use borrow.Author.Tests.{leb-true, leb-false, eq-eqb}
 use lib.Dec.{leb, ltb}
 use lib.Ieee.{Float}
 use lib.ListN.{length}
@@ -55,7 +55,7 @@ pub record Counted (d : Decoder) (es : List Event) : Type 0 where
 pub counted-anew : (d : Decoder) (es : List Event) → d .registers .marks .run ≡ 0 → d .registers .marks .settled ≡ false → since es ≡ [] → Counted d es
 counted-anew d es r s e =
     let none : row es ≡ 0 = rw (← row-since es, e) in
-    record { run = omega arith; settled = rw (s, e, lt-leb settledLimit 0 (omega arith)) }
+    record { run = omega arith; settled = rw (s, e) }
 
 -- the mark after an accepted frame
 marked : {c : Lc3Config} (d : Decoder) (f : Admitted c) →

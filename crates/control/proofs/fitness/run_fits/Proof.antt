@@ -3,7 +3,7 @@ use Prim.Native.Nat.{ℕ, _<_}
 use mathlib.Core.Path.{_≡_, refl}
 use mathlib.Core.Bool.{Bool, true, false, not, _&&_}
 use native.Mathlib.Omega.{arith}
-use borrow.Author.Tests.{lt-ltb, le-ltb, eq-eqb, ne-eqb, eqb-true, eqb-false}
+use borrow.Author.Tests.{lt-ltb, le-ltb, ne-eqb, eqb-true, eqb-false}
 use lib.Dec.{ltb, eqb}
 use Rattle.control.specs.State.{settledLimit, runFits}
 use Rattle.control.proofs.fitness.run_fits.Statement.{statement}
@@ -15,9 +15,7 @@ unfolding runFits
 active-run run settled = go (eqb run 0) refl
   where
     go : (b : Bool) → eqb run 0 ≡ b → b ≡ (not (ltb 0 run) && not (ltb settledLimit run) && not (eqb run settledLimit && not settled))
-    go true e =
-        let none : run ≡ 0 = eqb-true run 0 e in
-        rw (le-ltb 0 run (omega arith), le-ltb settledLimit run (omega arith), ne-eqb run settledLimit (λ q. omega arith))
+    go true e = rw (eqb-true run 0 e)
     go false e = rw (lt-ltb 0 run (omega (arith, eqb-false run 0 e)))
 
 module _ (run : ℕ) where
@@ -27,8 +25,8 @@ module _ (run : ℕ) where
 
   full-run : (settled : Bool) → run ≡ settledLimit → settled ≡ runFits false run settled
   unfolding runFits
-  full-run true h = rw (le-ltb settledLimit run (omega arith), eq-eqb run settledLimit h)
-  full-run false h = rw (le-ltb settledLimit run (omega arith), eq-eqb run settledLimit h)
+  full-run true h = rw h
+  full-run false h = rw h
 
   long-run : (settled : Bool) → settledLimit < run → false ≡ runFits false run settled
   unfolding runFits
