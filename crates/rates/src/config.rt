@@ -6,7 +6,7 @@ use crate::answer::Answer;
 use crate::duration::{FoundDuration, FrameDuration, duration_of};
 use crate::table::{FoundRate, Rate, row_of};
 
-#[derive(Drop)]
+#[derive(Clone, Copy)]
 pub struct Lc3Config {
     pub fs: Rate,
     pub n_ms: FrameDuration,
@@ -14,7 +14,7 @@ pub struct Lc3Config {
     pub history: usize,
 }
 
-#[derive(Drop)]
+#[derive(Clone, Copy)]
 pub enum Configured {
     Config(Lc3Config),
     Refused(Answer),

@@ -2,13 +2,13 @@
 ghost use Rattle.std.specs.Prelude.{◌≡◌};
 ghost use Rattle.rates.specs.Durations.{duration_of};
 
-#[derive(Drop)]
+#[derive(Clone, Copy)]
 pub enum FrameDuration {
     TenMs,
     SevenPointFiveMs,
 }
 
-#[derive(Drop)]
+#[derive(Clone, Copy)]
 pub enum FoundDuration {
     Duration(FrameDuration),
     Unknown,

@@ -5,7 +5,7 @@ ghost use Rattle.rates.specs.Lengths.{lengths_of};
 use crate::duration::FrameDuration;
 
 // The frame's samples at 12.8 kHz and at 6.4 kHz, and where the delayed frame starts at 12.8 kHz.
-#[derive(Drop)]
+#[derive(Clone, Copy)]
 pub struct Lengths {
     pub len12p8: usize,
     pub len6p4: usize,

@@ -1,4 +1,6 @@
 // What both ends of the filter share: the six rates, the two frame durations, and the answers.
+#![tactic(auto)]
+
 pub mod answer;
 pub mod config;
 pub mod duration;

@@ -4,7 +4,7 @@ ghost use Rattle.rates.specs.Table.{row_of};
 
 // A row: the rate in Hz, its number fs_ind, its multiple R of 8000, the samples of a frame at each
 // duration, the resampler's step p, the denominator's order l_den, and the length of a fade.
-#[derive(Drop)]
+#[derive(Clone, Copy)]
 pub struct Rate {
     pub hz: u32,
     pub fs_ind: u32,
@@ -79,7 +79,7 @@ pub const RATES: [Rate; 6] = [
     },
 ];
 
-#[derive(Drop)]
+#[derive(Clone, Copy)]
 pub enum FoundRate {
     Row(Rate),
     Unknown,
