@@ -8,14 +8,14 @@ use libc::{EINVAL, ENAMETOOLONG, STDERR_FILENO, STDIN_FILENO, STDOUT_FILENO};
 use std::num::wrapping_add_usize;
 
 // An input that can be read, by its descriptor, or why it cannot was said.
-#[derive(Drop)]
+#[derive(Clone, Copy)]
 pub enum Opened {
     Input(i32),
     Failed,
 }
 
 // Where a program is: at an argument, whose input is open under a descriptor, or is not open yet.
-#[derive(Drop)]
+#[derive(Clone, Copy)]
 pub struct Inputs {
     pub argument: usize,
     pub fd: i32,
@@ -24,7 +24,7 @@ pub struct Inputs {
 
 // What comes next: an input begins, brings a piece, or ends; or it cannot be read, which was said; or
 // there is none any more.
-#[derive(Drop)]
+#[derive(Clone, Copy)]
 pub enum Event {
     Begun,
     Piece,
@@ -34,7 +34,7 @@ pub enum Event {
 }
 
 // An event, how many bytes of a piece are in the buffer, and where the program is then.
-#[derive(Drop)]
+#[derive(Clone, Copy)]
 pub struct Next {
     pub event: Event,
     pub count: usize,

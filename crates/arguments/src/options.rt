@@ -2,7 +2,7 @@
 use libc::{STDERR_FILENO, STDOUT_FILENO};
 
 // What an argument asks for.
-#[derive(Drop)]
+#[derive(Clone, Copy)]
 enum Asked {
     Nothing,
     Help,

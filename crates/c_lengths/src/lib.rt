@@ -1,4 +1,6 @@
 // What a caller has to know before its first frame: how long a frame and the coefficient arrays are.
+#![tactic(auto)]
+
 ghost use Rattle.std.specs.Prelude.{◌≡◌};
 ghost use Rattle.c_lengths.specs.Lengths.{frame_length, numerator_count, denominator_count};
 

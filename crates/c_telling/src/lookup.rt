@@ -7,7 +7,7 @@ use rates::answer::Answer;
 use rates::table::{FoundRate, row_of};
 
 // The lag of an index and how it was rounded. Zeros where the lookup is refused.
-#[derive(Drop)]
+#[derive(Clone, Copy)]
 pub struct LagForC {
     pub answer: Answer,
     pub whole: u32,

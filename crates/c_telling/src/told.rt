@@ -12,14 +12,14 @@ use telling::rounding::Rounding;
 use telling::told::{Told, case_number, judge_fitted, told_of};
 
 // The gain's row, 0 where the filter has none.
-#[derive(Drop)]
+#[derive(Clone, Copy)]
 pub struct RowForC {
     pub on: bool,
     pub row: u32,
 }
 
 // What a frame tells. Zeros where it is refused; no lag and no row where it is not active.
-#[derive(Drop)]
+#[derive(Clone, Copy)]
 pub struct ToldForC {
     pub answer: Answer,
     pub transition: u32,

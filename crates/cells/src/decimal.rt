@@ -5,7 +5,7 @@ ghost use Rattle.cells.specs.Decimal.{decimal};
 ghost use Rattle.cells.specs.Texts.{Put};
 
 // The tens of a number, and the ones left over.
-#[derive(Drop)]
+#[derive(Clone, Copy)]
 struct Tens {
     tens: u64,
     ones: u8,

@@ -1,4 +1,6 @@
 // The coefficients of a frame's filter, from the lent set, the gain and the quarter of the lag.
+#![tactic(auto)]
+
 ghost use Rattle.std.specs.Prelude.{◌≡◌, ◌*◌, ◌≤◌, map, ◌++◌, length, drop};
 ghost use Rattle.floats.specs.Single.{◌⊗◌};
 ghost use Rattle.lag.specs.declared.rescale.Lag.{Lag};

@@ -6,7 +6,7 @@ use lag::rescale::Lag;
 
 // The rate in Hz and the duration in microseconds as they were given; the run of inactive frames; whether the previous
 // frame was active; whether the decoder has settled; and the previous frame's lag.
-#[derive(Drop)]
+#[derive(Clone, Copy)]
 pub struct Marks {
     pub rate: u32,
     pub duration: u32,

@@ -13,7 +13,7 @@ use rates::answer::Answer;
 use rates::config::Configured;
 
 // What a call gives back: its answer, the settled report and the state.
-#[derive(Drop)]
+#[derive(Clone, Copy)]
 pub struct Framed {
     pub answer: Answer,
     pub settled: bool,
@@ -21,7 +21,7 @@ pub struct Framed {
 }
 
 // What a call on lent arrays gives back beside them: its answer, and the registers, which hold the settled report.
-#[derive(Drop)]
+#[derive(Clone, Copy)]
 pub struct FramedInPlace {
     pub answer: Answer,
     pub registers: Registers,

@@ -9,7 +9,7 @@ use rates::config::{Configured, config};
 
 // The registers; the previous frame's coefficients, 11 of the numerator and 13 of the denominator; and the rings of past
 // inputs and outputs.
-#[derive(Drop)]
+#[derive(Clone, Copy)]
 pub struct Decoder {
     pub registers: Registers,
     pub kept: [f32; 24],
@@ -17,7 +17,7 @@ pub struct Decoder {
     pub x_hat_ltpf_mem: [f32; 1080],
 }
 
-#[derive(Drop)]
+#[derive(Clone, Copy)]
 pub struct Started {
     pub answer: Answer,
     pub decoder: Decoder,

@@ -8,7 +8,7 @@ use ears_judging::ear::Ear;
 use ears_judging::judge::judge_both;
 
 // What a call gives back of each ear: all but its arrays.
-#[derive(Drop)]
+#[derive(Clone, Copy)]
 pub struct BothFramed {
     pub left: FramedInPlace,
     pub right: FramedInPlace,

@@ -3,7 +3,7 @@ use lag::pitch::PitchRecord;
 use on_ring::registers::Registers;
 
 // An ear's registers and pitch record.
-#[derive(Drop)]
+#[derive(Clone, Copy)]
 pub struct Ear {
     pub registers: Registers,
     pub pitch: PitchRecord,

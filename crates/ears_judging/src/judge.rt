@@ -16,7 +16,7 @@ use rates::answer::Answer;
 use rates::config::{Configured, Lc3Config, config};
 
 // The verdicts on both ears.
-#[derive(Drop)]
+#[derive(Clone, Copy)]
 pub struct Verdicts {
     pub left: Verdict,
     pub right: Verdict,

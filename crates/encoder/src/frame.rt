@@ -18,7 +18,7 @@ use search::pitch::pitch_detection;
 use signals::highpass::HighPass;
 use signals::{at_6p4, at_12p8, at_rate};
 
-#[derive(Drop)]
+#[derive(Clone, Copy)]
 pub struct Framed {
     pub answer: Answer,
     pub pitch: PitchRecord,

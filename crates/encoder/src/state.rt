@@ -10,7 +10,7 @@ use signals::highpass::HighPass;
 // The rate in Hz and the duration in microseconds, the previous lag at 6.4 kHz, what the activation
 // and the high-pass remember, and the samples before the frame at the rate, at 12.8 and at 6.4 kHz,
 // oldest first.
-#[derive(Drop)]
+#[derive(Clone, Copy)]
 pub struct Encoder {
     pub rate: u32,
     pub duration: u32,
@@ -22,7 +22,7 @@ pub struct Encoder {
     pub x_6p4: [f32; 114],
 }
 
-#[derive(Drop)]
+#[derive(Clone, Copy)]
 pub struct Started {
     pub answer: Answer,
     pub encoder: Encoder,

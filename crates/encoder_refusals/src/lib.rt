@@ -1,5 +1,7 @@
 // The refusals of the encoder's calls, each test by itself and in the order of the answers: the state,
 // the set, the count of samples, the bits. A test that comes after a refusal reads nothing.
+#![tactic(auto)]
+
 ghost use Rattle.std.specs.Prelude.{◌≡◌};
 ghost use Rattle.encoder_refusals.specs.Refusals.{fit_of, counted, finite_set, judged_set, judged_count, judged_bits};
 

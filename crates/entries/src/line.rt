@@ -7,19 +7,19 @@ use judging::plan::SideInfo;
 use lines::field::{Number, first_tab, read_number};
 
 // What came of a frame: it was lost, or it came with its side information.
-#[derive(Drop)]
+#[derive(Clone, Copy)]
 pub enum Content {
     Lost,
     Frame(SideInfo),
 }
 
-#[derive(Drop)]
+#[derive(Clone, Copy)]
 pub struct Entry {
     pub frame: u32,
     pub content: Content,
 }
 
-#[derive(Drop)]
+#[derive(Clone, Copy)]
 pub enum Line {
     Malformed,
     Entry(Entry),

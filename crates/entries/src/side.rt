@@ -6,7 +6,7 @@ use judging::plan::SideInfo;
 use lag::pitch::{PitchRecord, Present};
 use lines::field::{Field, Number, first_tab, read_field, read_number};
 
-#[derive(Drop)]
+#[derive(Clone, Copy)]
 pub enum Side {
     Malformed,
     Info(SideInfo),

@@ -11,14 +11,14 @@ use crate::block::{filter_8, less_8};
 use lanes::{Lanes, store};
 
 // A filter fades in by n / fade, and out by one less that.
-#[derive(Drop)]
+#[derive(Clone, Copy)]
 pub enum Direction {
     In,
     Out,
 }
 
 // How the filter is weighted in a run of outputs: not at all, or by the factors of a fade.
-#[derive(Drop)]
+#[derive(Clone, Copy)]
 pub enum Weighting {
     Steady,
     Fade(Direction),

@@ -1,4 +1,6 @@
 // The filter over straight lines: blocks of eight outputs, fades and the five transitions.
+#![tactic(auto)]
+
 mod block;
 mod fade;
 pub mod transition;

@@ -9,7 +9,7 @@ use crate::fade::{Direction, Weighting, filter_run};
 use lag::rescale::Lag;
 use slices::put;
 
-#[derive(Drop)]
+#[derive(Clone, Copy)]
 pub enum Transition {
     // First case: inactive -> inactive
     Inactive,

@@ -1,4 +1,6 @@
 // 32-bit floats: the tests that a call makes of a lent set and of samples, and bit patterns with one NaN.
+#![tactic(auto)]
+
 pub mod bits;
 
 ghost use Rattle.std.specs.Prelude.{◌≡◌};

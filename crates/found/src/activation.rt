@@ -10,7 +10,7 @@ use crate::taps::{moved, table_offset, with_tap};
 use root::Root;
 
 // What the activation remembers of the last frames.
-#[derive(Drop)]
+#[derive(Clone, Copy)]
 pub struct Memory {
     pub mem_pitch: f32,
     pub mem_ltpf_active: bool,
@@ -18,7 +18,7 @@ pub struct Memory {
     pub mem_mem_nc: f32,
 }
 
-#[derive(Drop)]
+#[derive(Clone, Copy)]
 pub struct Activation {
     pub active: bool,
     pub nc: f32,
@@ -26,7 +26,7 @@ pub struct Activation {
 }
 
 // The three sums of a normalised correlation.
-#[derive(Drop)]
+#[derive(Clone, Copy)]
 struct NcSums {
     nc_numerator: f32,
     no_delay_total: f32,

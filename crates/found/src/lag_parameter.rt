@@ -8,7 +8,7 @@ use lag::index::lag_index;
 use search::correlate::correlate;
 
 // A lag after a negative fraction has been carried: whole samples and quarters, with its index.
-#[derive(Drop)]
+#[derive(Clone, Copy)]
 pub struct LagParameter {
     pub pitch_index: u32,
     pub pitch_int: usize,

@@ -1,4 +1,6 @@
 // What is found in a frame: its record, its bits, and what the activation remembers of it.
+#![tactic(auto)]
+
 pub mod activation;
 mod lag_parameter;
 mod taps;
@@ -15,7 +17,7 @@ use rates::duration::FrameDuration;
 use rates::lengths::lengths_of;
 use search::pitch::Detected;
 
-#[derive(Drop)]
+#[derive(Clone, Copy)]
 pub struct Found {
     pub pitch: PitchRecord,
     pub nbits_ltpf: u32,

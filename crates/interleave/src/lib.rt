@@ -1,4 +1,6 @@
 // One buffer with the samples of both ears, left and right in turn: taken apart, put together, and tested.
+#![tactic(auto)]
+
 ghost use Rattle.std.specs.Prelude.{◌≡◌, ◌+◌, ◌*◌, ◌≤◌, length, take, drop};
 ghost use Rattle.floats.specs.Single.{all_in_range};
 ghost use Rattle.slices.specs.Slices.{stored};
@@ -58,7 +60,7 @@ fn every_second_in_range(samples: &[f32], from: usize) -> bool
 }
 
 // Whether the samples of each ear are in range.
-#[derive(Drop)]
+#[derive(Clone, Copy)]
 pub struct EarsInRange {
     pub left: bool,
     pub right: bool,

@@ -12,7 +12,7 @@ use rates::answer::Answer;
 use rates::config::Lc3Config;
 
 // What is lent with a frame: fine, or refused.
-#[derive(Drop)]
+#[derive(Clone, Copy)]
 pub enum Lent {
     Fine,
     Refused(Answer),

@@ -12,14 +12,14 @@ use rates::answer::Answer;
 use rates::config::Lc3Config;
 
 // What a frame brings beside its samples and its set: the pitch record, and the frame's bits.
-#[derive(Drop)]
+#[derive(Clone, Copy)]
 pub struct SideInfo {
     pub pitch: PitchRecord,
     pub nbits: u32,
 }
 
 // What an accepted frame is to do.
-#[derive(Drop)]
+#[derive(Clone, Copy)]
 pub struct Plan {
     pub config: Lc3Config,
     pub active: bool,
@@ -28,7 +28,7 @@ pub struct Plan {
     pub transition: Transition,
 }
 
-#[derive(Drop)]
+#[derive(Clone, Copy)]
 pub enum Verdict {
     Refused(Answer),
     Accepted(Plan),

@@ -5,7 +5,7 @@ ghost use Rattle.lag.specs.Gain.{bits_of, gain_of, may_activate};
 use rates::duration::FrameDuration;
 use rates::table::Rate;
 
-#[derive(Drop)]
+#[derive(Clone, Copy)]
 pub enum Gain {
     Off,
     On { gain: f32, row: usize },

@@ -2,7 +2,7 @@
 ghost use Rattle.std.specs.Prelude.{◌≡◌};
 ghost use Rattle.lag.specs.Lag.{unscaled_of, index_of};
 
-#[derive(Drop)]
+#[derive(Clone, Copy)]
 pub enum Unscaled {
     Quarters(u16),
     IndexTooLarge,

@@ -1,4 +1,6 @@
 // Lag and gain: the pitch record, an index as a lag and a lag as an index, and bits as a gain.
+#![tactic(auto)]
+
 pub mod gain;
 pub mod index;
 pub mod pitch;

@@ -2,20 +2,20 @@
 ghost use Rattle.std.specs.Prelude.{◌≡◌};
 ghost use Rattle.lag.specs.Sent.{sent_of};
 
-#[derive(Drop)]
+#[derive(Clone, Copy)]
 pub struct Present {
     pub index: u32,
     pub active: bool,
 }
 
-#[derive(Drop)]
+#[derive(Clone, Copy)]
 pub enum PitchRecord {
     Absent,
     Present(Present),
 }
 
 // What of a record is sent: whatever receives or stores a record goes by this alone.
-#[derive(Drop)]
+#[derive(Clone, Copy)]
 pub enum Sent {
     Absent,
     Present(Present),

@@ -5,26 +5,26 @@ ghost use Rattle.lag.specs.Lag.{lag_of, found_lag, rounding, looked_up_lag};
 use crate::index::{Unscaled, unscaled_lag};
 use rates::table::Rate;
 
-#[derive(Drop)]
+#[derive(Clone, Copy)]
 pub struct Lag {
     pub whole: usize,
     pub quarter: usize,
 }
 
-#[derive(Drop)]
+#[derive(Clone, Copy)]
 pub enum FoundLag {
     Lag(Lag),
     IndexTooLarge,
 }
 
 // A lag, and by how many eighths of a quarter rounding made it longer; below 0, shorter.
-#[derive(Drop)]
+#[derive(Clone, Copy)]
 pub struct RoundedLag {
     pub lag: Lag,
     pub rounding: i32,
 }
 
-#[derive(Drop)]
+#[derive(Clone, Copy)]
 pub enum LookedUpLag {
     Lag(RoundedLag),
     IndexTooLarge,

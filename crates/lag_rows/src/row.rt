@@ -12,13 +12,13 @@ use rates::answer::{Answer, number};
 use rates::table::{FoundRate, Rate, row_of};
 
 // The lag that a row shows, and how it was rounded: dashes where there is none.
-#[derive(Drop)]
+#[derive(Clone, Copy)]
 pub enum Shown {
     Dashes,
     Lag(RoundedLag),
 }
 
-#[derive(Drop)]
+#[derive(Clone, Copy)]
 pub struct Row {
     pub answer: Answer,
     pub lag: Shown,

@@ -1,13 +1,15 @@
 // Lists lags: lines of rate, tab, pitch index come from the files that are named, or from standard
 // input, and a table for each goes to standard output. The listing itself is the library's; this
 // program moves bytes.
+#![tactic(auto)]
+
 use arguments::inputs::{Event, Inputs, advance, first};
 use arguments::options::is_to_run;
 use listing::machine::Listing;
 use listing_stream::{Pumped, begin, end, pump};
 
 // Where the program is in its inputs, the listing of the one that is open, and whether to go on.
-#[derive(Drop)]
+#[derive(Clone, Copy)]
 struct Run {
     inputs: Inputs,
     listing: Listing,

@@ -1,10 +1,12 @@
 // Eight sums side by side. Each is added up in its own exact order, so no bit differs from a sum by
 // itself; side by side, they become vector code.
+#![tactic(auto)]
+
 ghost use Rattle.std.specs.Prelude.{◌≡◌, ◌+◌, ◌≤◌, length};
 ghost use Rattle.slices.specs.Slices.{stored, placed};
 ghost use Rattle.lanes.specs.Lanes.{all, listed, plus, minus, row_added, fir_inside, fir_added, fir_taken, holds, Summed, three_correlated};
 
-#[derive(Drop)]
+#[derive(Clone, Copy)]
 pub struct Lanes {
     pub s0: f32,
     pub s1: f32,
@@ -169,7 +171,7 @@ pub fn sub_fir(start: Lanes, c: &[f32], x: &[f32], i: usize) -> Lanes
 }
 
 // Three times eight sums.
-#[derive(Drop)]
+#[derive(Clone, Copy)]
 pub struct Three {
     pub first: Lanes,
     pub second: Lanes,

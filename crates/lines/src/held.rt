@@ -4,14 +4,14 @@ ghost use Rattle.std.specs.Prelude.{◌≡◌, min, drop};
 ghost use Rattle.lines.specs.Machine.{line_taken};
 
 // The bytes that are held, and how many they are.
-#[derive(Drop)]
+#[derive(Clone, Copy)]
 pub struct Held {
     pub bytes: [u8; 32],
     pub len: usize,
 }
 
 // What is held after some bytes, and where the rest of the input starts.
-#[derive(Drop)]
+#[derive(Clone, Copy)]
 pub struct Taken {
     pub held: Held,
     pub at: usize,

@@ -13,20 +13,20 @@ use lag_rows::row::{answer_line, put_row};
 use lines::held::{Held, count, take_line};
 
 // What is known between two lines: the number of the next one.
-#[derive(Drop)]
+#[derive(Clone, Copy)]
 pub struct Known {
     pub line: u64,
 }
 
 // What was known before the line that is being read, and what is held of it.
-#[derive(Drop)]
+#[derive(Clone, Copy)]
 pub struct Listing {
     pub known: Known,
     pub held: Held,
 }
 
 // The listing after a call, how many bytes of input it took, and how many bytes it wrote.
-#[derive(Drop)]
+#[derive(Clone, Copy)]
 pub struct Fed {
     pub listing: Listing,
     pub used: usize,

@@ -11,7 +11,7 @@ use rates::answer::Answer;
 use rates::config::{Configured, Lc3Config, config};
 
 // The marks, and where the next block starts in both rings.
-#[derive(Drop)]
+#[derive(Clone, Copy)]
 pub struct Registers {
     pub marks: Marks,
     pub block_start_index: usize,

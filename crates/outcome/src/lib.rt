@@ -1,5 +1,7 @@
 // How a program says that it failed, and under which name. It has no exit status, so it leaves a byte in
 // a file that `./run` holds open for it on descriptor 3, and `./run` then ends with status 1.
+#![tactic(auto)]
+
 ghost use Rattle.std.specs.Prelude.{◌≤◌, length};
 
 use libc::{STDERR_FILENO, STDOUT_FILENO};

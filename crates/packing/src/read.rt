@@ -6,7 +6,7 @@ use lag::pitch::{PitchRecord, Present};
 use rates::answer::Answer;
 
 // How a reading went, the record, and how many bytes it used.
-#[derive(Drop)]
+#[derive(Clone, Copy)]
 pub struct Reading {
     pub answer: Answer,
     pub pitch: PitchRecord,

@@ -8,7 +8,7 @@ use lag::pitch::{PitchRecord, Present, Sent, sent_of};
 use rates::answer::Answer;
 
 // How a writing went, and how many bytes it wrote.
-#[derive(Drop)]
+#[derive(Clone, Copy)]
 pub struct Writing {
     pub answer: Answer,
     pub written: usize,

@@ -1,6 +1,7 @@
 // The coefficient tables of the LC3 standard (Bluetooth SIG, Low Complexity Communication Codec 1.0), as
 // they stand in the test folder of liblc3 1.1.3 (Google, Apache-2.0). Only numbers were taken over.
 // Numerators and denominators have four rows each, one after the other; 44100 takes those of 48000.
+#![tactic(auto)]
 
 pub const RESAMPLING: [f32; 239] = [
     -2.04305583e-05,

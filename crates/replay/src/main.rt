@@ -1,6 +1,8 @@
 // Replays recordings: lines of side information come from the files that are named, or from standard
 // input, and a table of what the decoder does on each goes to standard output. The listing itself is
 // the library's; this program moves bytes.
+#![tactic(auto)]
+
 mod progress;
 
 use crate::progress::Progress;
@@ -10,7 +12,7 @@ use replay_listing::machine::{Listing, begin};
 use replay_stream::{end, pump, write_header};
 
 // The replay of the input that is open, how far it is, and whether to go on.
-#[derive(Drop)]
+#[derive(Clone, Copy)]
 struct Replayed {
     listing: Listing,
     progress: Progress,
@@ -18,7 +20,7 @@ struct Replayed {
 }
 
 // Where the program is in its inputs, and what is replayed.
-#[derive(Drop)]
+#[derive(Clone, Copy)]
 struct Run {
     inputs: Inputs,
     replayed: Replayed,

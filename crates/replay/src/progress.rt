@@ -3,7 +3,7 @@ use libc::{SEEK_CUR, SEEK_END, SEEK_SET, STDERR_FILENO, STDOUT_FILENO};
 
 // The bytes of the input, 0 where nothing is to be shown; those that were read; when the line was last
 // written, in seconds, or the run began; and whether it stands there.
-#[derive(Drop)]
+#[derive(Clone, Copy)]
 pub(crate) struct Progress {
     size: u64,
     done: u64,

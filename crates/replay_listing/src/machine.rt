@@ -15,7 +15,7 @@ use replaying::step::{Last, step};
 
 // What is known between two lines: the number of the next one, the last frame that counted, and what the decoder
 // remembers beside samples and coefficients.
-#[derive(Drop)]
+#[derive(Clone, Copy)]
 pub struct Replay {
     pub line: u64,
     pub last: Last,
@@ -23,21 +23,21 @@ pub struct Replay {
 }
 
 // The replay with what is held of the line that is being read.
-#[derive(Drop)]
+#[derive(Clone, Copy)]
 pub struct Listing {
     pub replay: Replay,
     pub held: Held,
 }
 
 // What is known after a line, and the line's row.
-#[derive(Drop)]
+#[derive(Clone, Copy)]
 pub struct Replayed {
     pub replay: Replay,
     pub row: Row,
 }
 
 // The listing after a call, how many bytes of input it took, and how many bytes it wrote.
-#[derive(Drop)]
+#[derive(Clone, Copy)]
 pub struct Fed {
     pub listing: Listing,
     pub used: usize,

@@ -1,2 +1,4 @@
 // The rows of a replay as text.
+#![tactic(auto)]
+
 pub mod row;

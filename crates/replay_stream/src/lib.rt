@@ -1,4 +1,6 @@
 // The replay over standard output: what every program that replays has in common.
+#![tactic(auto)]
+
 ghost use Rattle.std.specs.Prelude.{◌≡◌, false};
 ghost use Rattle.replay_listing.specs.Machine.{after};
 
@@ -8,7 +10,7 @@ use replay_listing::machine::Listing;
 // The listing after some input, and whether it stopped before its end: where standard output took
 // no more, or the buffer has no space for a row. Why it stopped is said. No contract can say what
 // was written.
-#[derive(Drop)]
+#[derive(Clone, Copy)]
 pub struct Pumped {
     pub listing: Listing,
     pub failed: bool,

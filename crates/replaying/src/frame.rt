@@ -13,26 +13,26 @@ use rates::config::Configured;
 use telling::told::{Told, judge_fitted, told_of};
 
 // What the row of an accepted frame shows: what its plan tells, and the settled report.
-#[derive(Drop)]
+#[derive(Clone, Copy)]
 pub struct Columns {
     pub told: Told,
     pub settled: bool,
 }
 
-#[derive(Drop)]
+#[derive(Clone, Copy)]
 pub enum Shown {
     Dashes,
     Columns(Columns),
 }
 
-#[derive(Drop)]
+#[derive(Clone, Copy)]
 pub struct Row {
     pub answer: Answer,
     pub shown: Shown,
 }
 
 // The marks after a line's content, and the line's row.
-#[derive(Drop)]
+#[derive(Clone, Copy)]
 pub struct Played {
     pub marks: Marks,
     pub row: Row,

@@ -8,14 +8,14 @@ use entries::line::{Entry, Line, read_line};
 use rates::answer::Answer;
 
 // The number of the last frame that counted, if there was one.
-#[derive(Drop)]
+#[derive(Clone, Copy)]
 pub enum Last {
     None,
     Frame(u32),
 }
 
 // What is known after a line, and the line's row.
-#[derive(Drop)]
+#[derive(Clone, Copy)]
 pub struct Stepped {
     pub last: Last,
     pub marks: Marks,

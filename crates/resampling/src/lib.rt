@@ -1,6 +1,8 @@
 // The resampler: the frame's samples at 12.8 kHz. Eight outputs further on the taps' entries of the
 // set are the same again, and the samples lie 120/p further on, so the sums of sixteen outputs that
 // lie eight apart are made side by side.
+#![tactic(auto)]
+
 ghost use Rattle.std.specs.Prelude.{◌≡◌, ◌+◌, ◌*◌, ◌/◌, ◌≤◌, ◌<◌, length};
 ghost use Rattle.floats.specs.Single.{at};
 ghost use Rattle.slices.specs.Written.{written};
@@ -13,7 +15,7 @@ use rates::duration::FrameDuration;
 use rates::lengths::lengths_of;
 
 // The sums of outputs n, n + 8, .., n + 120.
-#[derive(Drop)]
+#[derive(Clone, Copy)]
 struct Sixteen {
     low: Lanes,
     high: Lanes,

@@ -1,19 +1,21 @@
 // The correctly rounded square root of an `f32`, computed on whole numbers. A unit is 2^-149, the
 // smallest float above zero. specs/SquareRoot.antt says what the root is.
+#![tactic(auto)]
+
 ghost use Rattle.std.specs.Prelude.{◌≡◌, ◌^◌, ◌<◌, T};
 ghost use Rattle.std.specs.Float.Ieee.Positive.{above};
 ghost use Rattle.root.specs.SquareRoot.{Nearest, root_of, root_square};
 ghost use Rattle.root.specs.Steps.{Normalised, WholeRoot};
 
 // The root of a float, or that it has none.
-#[derive(Drop)]
+#[derive(Clone, Copy)]
 pub enum Root {
     Root(f32),
     NoRoot,
 }
 
 // The float significand * 2^(exponent - 275), where the significand has all its 24 digits.
-#[derive(Drop)]
+#[derive(Clone, Copy)]
 struct Normal {
     significand: u32,
     exponent: u32,

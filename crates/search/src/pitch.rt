@@ -18,7 +18,7 @@ const K_MAX: usize = 114;
 
 // The chosen lag and whether there is a pitch, with the lag's plain correlation and the root of the
 // product of the two energies.
-#[derive(Drop)]
+#[derive(Clone, Copy)]
 pub struct Detected {
     pub t_curr: usize,
     pub present: bool,
@@ -27,7 +27,7 @@ pub struct Detected {
 }
 
 // A lag to choose from: its correlation, plain and normalised, and the root that it is divided by.
-#[derive(Drop)]
+#[derive(Clone, Copy)]
 struct Candidate {
     lag: usize,
     correlation: f32,

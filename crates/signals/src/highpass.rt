@@ -4,7 +4,7 @@ ghost use Rattle.lanes.specs.Sums.{window};
 ghost use Rattle.signals.specs.HighPass.{memories, high_passed};
 
 // The two memories, which travel together from frame to frame.
-#[derive(Drop)]
+#[derive(Clone, Copy)]
 pub struct HighPass {
     pub h50_minus1: f32,
     pub h50_minus2: f32,

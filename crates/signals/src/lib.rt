@@ -1,6 +1,8 @@
 // The signals of a frame at its rate, at 12.8 kHz and at 6.4 kHz, each made in an array of zeros:
 // x[0..59] past inputs, x[60..] the frame; y[0..275] past samples at 12.8 kHz, y[276..] the frame's; and
 // at 6.4 kHz z[0..113] and z[114..].
+#![tactic(auto)]
+
 mod halving;
 pub mod highpass;
 mod straight;

@@ -1,4 +1,6 @@
 // A block of samples copied into a slice.
+#![tactic(auto)]
+
 ghost use Rattle.std.specs.Prelude.{◌≡◌, ◌+◌, ◌≤◌, length};
 ghost use Rattle.slices.specs.Slices.{stored, placed};
 

@@ -7,7 +7,7 @@ use lag::rescale::{LookedUpLag, look_up_lag};
 use rates::table::Rate;
 
 // None where the frame has no lag.
-#[derive(Drop)]
+#[derive(Clone, Copy)]
 pub enum Rounding {
     None,
     Difference(i32),

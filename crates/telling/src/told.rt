@@ -12,7 +12,7 @@ use lag::rescale::Lag;
 use rates::config::Configured;
 
 // What an accepted frame is going to do: its case, whether it is active, its lag, its gain, and how the lag was rounded.
-#[derive(Drop)]
+#[derive(Clone, Copy)]
 pub struct Told {
     pub transition: Transition,
     pub active: bool,

@@ -18,7 +18,7 @@ const COEFFICIENT: f32 = 0.00000002;
 const OUTPUT: f32 = 0.001;
 
 // What was read of the frame: what goes in, and what is published of it.
-#[derive(Drop)]
+#[derive(Clone, Copy)]
 pub struct Given {
     pub nbits: u32,
     pub active: bool,
@@ -30,7 +30,7 @@ pub struct Given {
 }
 
 // What the frame's call gave: its answer, the filter that the decoder keeps, and the outputs.
-#[derive(Drop)]
+#[derive(Clone, Copy)]
 pub struct Made {
     pub answer: u64,
     pub kept: [f32; 24],

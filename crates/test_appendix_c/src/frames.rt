@@ -16,7 +16,7 @@ const SIGNAL: f32 = 2.0;
 const CORRELATION: f32 = 0.000001;
 
 // The encoder, how many frames it has had, and the tally.
-#[derive(Drop)]
+#[derive(Clone, Copy)]
 pub struct Encoding {
     pub encoder: Encoder,
     pub frames: u32,
@@ -24,7 +24,7 @@ pub struct Encoding {
 }
 
 // What goes into a frame.
-#[derive(Drop)]
+#[derive(Clone, Copy)]
 pub struct Given {
     pub near_nyquist: Number,
     pub nbits: Number,
@@ -32,7 +32,7 @@ pub struct Given {
 }
 
 // What is published of a frame.
-#[derive(Drop)]
+#[derive(Clone, Copy)]
 pub struct Expected {
     pub whole: bool,
     pub present: Number,
@@ -44,7 +44,7 @@ pub struct Expected {
 }
 
 // A pitch record as it is published: the index and the active mark are 0 where there is no pitch.
-#[derive(Drop)]
+#[derive(Clone, Copy)]
 pub struct Numbers {
     pub present: u64,
     pub index: u64,

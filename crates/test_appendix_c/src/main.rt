@@ -1,6 +1,8 @@
 // Runs the vectors of the standard's Appendix C through the encoder and the decoder, and prints for
 // each how many of its values were compared and how many are out of tolerance. The arguments name
 // the files; for a dash, and where there are none, standard input is read.
+#![tactic(auto)]
+
 mod cases;
 mod frames;
 mod past;

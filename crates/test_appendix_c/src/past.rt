@@ -18,7 +18,7 @@ const R: u32 = 2;
 
 // What was read of the past: the frame before with its filter, of whose denominator's five entries the
 // first is always 0.0 and is not listed; its inputs, and the outputs of the two frames before.
-#[derive(Drop)]
+#[derive(Clone, Copy)]
 pub struct Past {
     pub active: bool,
     pub index: u32,

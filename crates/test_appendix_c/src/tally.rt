@@ -6,7 +6,7 @@ use std::num::wrapping_add_u64;
 use vectors::read::{Floats, Number};
 
 // Where vectors stand: nowhere yet, in a frame of the encoder, or in a case of the decoder.
-#[derive(Drop)]
+#[derive(Clone, Copy)]
 pub enum Place {
     Nowhere,
     Frame { duration: u32, number: u32 },
@@ -14,7 +14,7 @@ pub enum Place {
 }
 
 // Whether there is more to compare, where it stands, and the counts.
-#[derive(Drop)]
+#[derive(Clone, Copy)]
 pub struct Tally {
     pub more: bool,
     pub place: Place,

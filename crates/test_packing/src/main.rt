@@ -1,5 +1,7 @@
 // Writes every pitch record as bytes and reads it back, and reads every byte and every pair of
 // bytes, to be compared with another packer's.
+#![tactic(auto)]
+
 ghost use Rattle.std.specs.Prelude.{◌≤◌};
 
 use arguments::options::is_to_run;
@@ -114,7 +116,7 @@ fn is_padding_refused(reading: Reading) -> bool {
 
 // What became of a reading: it is counted as refused with 12, or listed, or nothing can be written
 // any more.
-#[derive(Drop)]
+#[derive(Clone, Copy)]
 enum Outcome {
     Counted,
     Listed,

@@ -1,4 +1,6 @@
 // Writes the bits of each published table, to be compared with the bits that came with them.
+#![tactic(auto)]
+
 use arguments::options::is_to_run;
 use libc::STDOUT_FILENO;
 

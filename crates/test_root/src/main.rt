@@ -1,6 +1,8 @@
 // Roots of many floats, written as bit patterns to be compared with another implementation's.
 // `test_root spread` takes 104,693 inputs from all exponents, `test_root whole` all 2 * 8,388,608
 // significands of the exponents 0 and 1, and `test_root every` all 4,294,967,296 patterns.
+#![tactic(auto)]
+
 ghost use Rattle.std.specs.Prelude.{◌<◌};
 
 use arguments::options::{is_to_run, refuse};
@@ -9,7 +11,7 @@ use libc::STDOUT_FILENO;
 use root::Root;
 
 // The inputs of a run: those of `spread_input`, or all patterns from one on.
-#[derive(Drop)]
+#[derive(Clone, Copy)]
 enum Inputs {
     Spread,
     From(u32),

@@ -1,6 +1,8 @@
 // How many inactive frames settle a decoder, by a run at 8000 Hz. Two decoders differ in the samples
 // of their first active frame. Then both are given equal frames: active ones, some inactive ones, and
 // one more active frame, whose outputs are compared.
+#![tactic(auto)]
+
 ghost use Rattle.std.specs.Prelude.{◌≤◌, length};
 
 use arguments::options::is_to_run;

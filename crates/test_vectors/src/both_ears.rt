@@ -12,7 +12,7 @@ use vectors::part::{first, first_mut};
 use vectors::read::{Floats, read_number};
 
 // What goes into a frame beside its samples: two pitch records and the number of bits.
-#[derive(Drop)]
+#[derive(Clone, Copy)]
 pub struct Side {
     pub left: PitchRecord,
     pub right: PitchRecord,
@@ -20,7 +20,7 @@ pub struct Side {
 }
 
 // What a frame's call gave, and its samples after it.
-#[derive(Drop)]
+#[derive(Clone, Copy)]
 pub struct Made {
     pub decoded: Decoded,
     pub samples: [f32; 1024],

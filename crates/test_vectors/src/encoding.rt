@@ -10,7 +10,7 @@ use vectors::part::{first, first_signed};
 use vectors::read::{Number, Samples, read_number, read_samples};
 
 // What goes into a frame.
-#[derive(Drop)]
+#[derive(Clone, Copy)]
 pub struct Given {
     pub near_nyquist: Number,
     pub nbits: Number,
@@ -18,7 +18,7 @@ pub struct Given {
 }
 
 // What must come out of a frame.
-#[derive(Drop)]
+#[derive(Clone, Copy)]
 pub struct Expected {
     pub answer: Number,
     pub present: Number,
@@ -28,7 +28,7 @@ pub struct Expected {
 }
 
 // A pitch record as a vector file has it: the index and the active mark are 0 where there is no pitch.
-#[derive(Drop)]
+#[derive(Clone, Copy)]
 pub struct Numbers {
     pub present: u64,
     pub index: u64,

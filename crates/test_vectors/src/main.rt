@@ -2,6 +2,8 @@
 // prints where an answer, a report, a sample or a pitch record differs from what the file says. The
 // arguments name an end and its files, and so on; for a dash, and where an end is named without a file,
 // standard input is read.
+#![tactic(auto)]
+
 mod both_ears;
 mod ear;
 mod encoding;
@@ -18,14 +20,14 @@ use arguments::options::{is_to_run, refuse};
 use walk::{End, compare};
 
 // What an argument means: an end, or a file.
-#[derive(Drop)]
+#[derive(Clone, Copy)]
 enum Meant {
     End(End),
     File,
 }
 
 // The end that was named last, and whether a file has been named for it.
-#[derive(Drop)]
+#[derive(Clone, Copy)]
 struct Chosen {
     end: End,
     is_used: bool,

@@ -11,7 +11,7 @@ use vectors::part::{first, first_mut};
 use vectors::read::Floats;
 
 // What a frame's call gave, and its samples after it.
-#[derive(Drop)]
+#[derive(Clone, Copy)]
 pub struct Made {
     pub framed: Framed,
     pub samples: [f32; 1024],

@@ -4,7 +4,7 @@ use lag::pitch::{PitchRecord, Present};
 use vectors::read::{Floats, Number, read_floats, read_number};
 
 // An answer and a settled report, and whether they were read whole.
-#[derive(Drop)]
+#[derive(Clone, Copy)]
 pub struct Reports {
     pub whole: bool,
     pub answer: Number,
@@ -12,7 +12,7 @@ pub struct Reports {
 }
 
 // What goes into a frame beside its pitch records, and what must come out.
-#[derive(Drop)]
+#[derive(Clone, Copy)]
 pub struct Given {
     pub whole: bool,
     pub nbits: u32,

@@ -6,7 +6,7 @@ use encoder::state::Encoder;
 
 // Both ears of the decoder, of which the decoder alone is the left one; the encoder; the set that is
 // lent, and the tally.
-#[derive(Drop)]
+#[derive(Clone, Copy)]
 pub struct Run {
     pub left: Decoder,
     pub right: Decoder,

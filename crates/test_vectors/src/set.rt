@@ -3,7 +3,7 @@ use vectors::read::{Floats, Number, none, read_floats, read_number};
 
 // Whether the set was read whole, and its tables: the decoder's numerators and denominators, and then
 // nothing; or what the encoder resamples with, and interpolates correlations and signals with.
-#[derive(Drop)]
+#[derive(Clone, Copy)]
 pub struct Set {
     pub whole: bool,
     pub first: Floats,

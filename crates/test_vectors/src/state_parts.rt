@@ -7,7 +7,7 @@ use ears_judging::ear::Ear;
 use lag::pitch::PitchRecord;
 
 // Two states, and what a frame of both gave.
-#[derive(Drop)]
+#[derive(Clone, Copy)]
 pub struct Decoded {
     pub framed: BothFramed,
     pub left: Decoder,

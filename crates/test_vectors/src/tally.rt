@@ -17,7 +17,7 @@ const PRINTED: u64 = 1000;
 
 // Whether there is more to compare, the kind of the last call, how many calls there were, how many of
 // each kind, and how many numbers of their answers differed.
-#[derive(Drop)]
+#[derive(Clone, Copy)]
 pub struct Tally {
     pub more: bool,
     pub kind: u32,

@@ -18,7 +18,7 @@ const NAMES: u32 = 0x4e;
 const END: u32 = 0x45;
 
 // What a vector file is of.
-#[derive(Drop)]
+#[derive(Clone, Copy)]
 pub enum End {
     Decoder,
     Encoder,

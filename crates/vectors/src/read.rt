@@ -9,20 +9,20 @@ use floats::bits::float_of;
 // The most numbers that a part may have.
 const MOST: usize = 1024;
 
-#[derive(Drop)]
+#[derive(Clone, Copy)]
 pub struct Number {
     pub whole: bool,
     pub value: u32,
 }
 
-#[derive(Drop)]
+#[derive(Clone, Copy)]
 pub struct Floats {
     pub whole: bool,
     pub values: [f32; 1024],
     pub count: usize,
 }
 
-#[derive(Drop)]
+#[derive(Clone, Copy)]
 pub struct Samples {
     pub whole: bool,
     pub values: [i16; 1024],
