@@ -51,7 +51,7 @@ module _ (s : Shared) (ear : Ear) (own : List Float) (v : Verdict) (told : v ≡
       let j = ready plan e in
       record {
         count = omega (arith, j.1);
-        most = omega (arith, (sizes j.0).twice, (sizes j.0).line-fits);
+        most = omega (arith, (sizes j.0).twice, (sizes j.0).line_fits);
         block = omega (arith, (block_fits_lem j.0).1);
       }
 

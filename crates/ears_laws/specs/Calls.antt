@@ -49,7 +49,7 @@ pub data Call : Type 0 where
 
 -- what a frame gives both ears, and the buffer at exit
 abbrev pub framed_both : Headset → Given → Framed × Framed × List Float
-framed_both h f = both_framed h.left h.right f.numerators f.denominators f.left-pitch f.right-pitch f.nbits f.samples
+framed_both h f = both_framed h.left h.right f.numerators f.denominators f.left_pitch f.right_pitch f.nbits f.samples
 
 -- the states with another one for one ear
 abbrev pub with_own : WhichEar → Headset → Decoder → Headset
@@ -68,8 +68,8 @@ samples_of left_ear buffer = lefts buffer
 samples_of right_ear buffer = rights buffer
 
 abbrev pub pitch_of : WhichEar → Given → PitchRecord
-pitch_of left_ear f = f.left-pitch
-pitch_of right_ear f = f.right-pitch
+pitch_of left_ear f = f.left_pitch
+pitch_of right_ear f = f.right_pitch
 
 abbrev pub part_of : WhichEar → Framed × Framed × List Float → Framed × List Float
 part_of left_ear r = (r.0, lefts r.2)

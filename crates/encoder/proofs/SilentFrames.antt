@@ -60,8 +60,8 @@ module _ (e : Encoder) (r k s : List Float) (nbits : ℕ) (near : Bool) (c : Lc3
       record { long = a.set.0; numbers = a.finite; step = a.step; factor = scale_plain e.rate c.fs a.row } in
       let l = lengths_of c.n_ms in
       let size = sized c.n_ms in
-      let signals = silent_signals e.x_s e.x_12p8 e.x_6p4 e.h50 c.fs.p c.nf l r quiet.input quiet.at-12p8 quiet.at-6p4 quiet.resting set size a.samples.1 in
-      rw (silence _ l.len6p4 (omega arith) signals.at-6p4.still e.t_prev)
+      let signals = silent_signals e.x_s e.x_12p8 e.x_6p4 e.h50 c.fs.p c.nf l r quiet.input quiet.at_12p8 quiet.at_6p4 quiet.resting set size a.samples.1 in
+      rw (silence _ l.len6p4 (omega arith) signals.at_6p4.still e.t_prev)
       (record {
         done = refl;
         absent = refl;
@@ -69,8 +69,8 @@ module _ (e : Encoder) (r k s : List Float) (nbits : ℕ) (near : Bool) (c : Lc3
         lag_17 = refl;
         state = record {
           input = silent_laid 540 60 _ c.nf 60 signals.input (omega arith);
-          at_12p8 = silent_laid 404 276 _ l.len12p8 276 signals.at-12p8 (omega arith);
-          at_6p4 = silent_laid 178 114 _ l.len6p4 114 signals.at-6p4 (omega arith);
+          at_12p8 = silent_laid 404 276 _ l.len12p8 276 signals.at_12p8 (omega arith);
+          at_6p4 = silent_laid 178 114 _ l.len6p4 114 signals.at_6p4 (omega arith);
           resting = signals.resting;
         };
       })

@@ -98,4 +98,4 @@ accepted_plan r (Configured.Config c) nums dens side samples plan e = go (outcom
 pub lent : (c : Lc3Config) (nums dens : List Float) (side : SideInfo) (samples : List Float) (lag : Lag) → Sized c →
     Passed c nums dens side samples lag → Lent c.fs.l_den nums dens
 lent c nums dens side samples lag s p =
-    record { least = s.least; most = s.most; nums = omega (arith, p.nums-count); dens = p.dens-count }
+    record { least = s.least; most = s.most; nums = omega (arith, p.nums_count); dens = p.dens_count }

@@ -45,7 +45,7 @@ abbrev Parts : Type 0
 Parts = BothFramed × List Float × List Float × List Float × List Float × List Float × List Float × List Float
 
 module _ (a : HeadsetArrays) (f : Given) (left right : Ear) (st : BothFramed) (lk lx ly rk rx ry out : List Float)
-    (from-l : left ≡ ear_of a.left.numbers f.left-pitch) (from-r : right ≡ ear_of a.right.numbers f.right-pitch)
+    (from-l : left ≡ ear_of a.left.numbers f.left_pitch) (from-r : right ≡ ear_of a.right.numbers f.right_pitch)
     (made : ◌≡◌ {A = Parts} (st, lk, lx, ly, rk, rx, ry, out)
     (both_in_place left a.left.kept a.left.inputs a.left.outputs right a.right.kept a.right.inputs a.right.outputs
     f.numerators f.denominators f.nbits f.samples)) where

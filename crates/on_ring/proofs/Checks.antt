@@ -62,10 +62,10 @@ module _ {r : Registers} {nums dens frame : List Float} {plan : Plan} (j : Judge
           past = sizes.past_fits;
           inputs = x;
           outputs = y;
-          fade_least = sizes.fade-least;
-          fade_most = sizes.fade-most;
+          fade_least = sizes.fade_least;
+          fade_most = sizes.fade_most;
           rest = sizes.rest;
           twice = sizes.twice;
-          line = sizes.line-fits;
+          line = sizes.line_fits;
         };
       }

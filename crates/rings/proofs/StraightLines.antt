@@ -108,8 +108,8 @@ module _ {t : Transition} {old new : Filter} {c : Lc3Config} {start : ℕ} {x ys
   pub lines : Lines c.fs.fade c.history x (straight ys c.history start ++ take (length x - 16) (drop 16 x))
   lines = record {
     past = omega (arith, f.ring);
-    fade_least = f.ring.fade-least;
-    fade_most = f.ring.fade-most;
+    fade_least = f.ring.fade_least;
+    fade_most = f.ring.fade_most;
     frame = omega (arith, f.ring);
     same = omega (arith, line_y);
     inputs = drop_at (straight ys c.history start) (take (length x - 16) (drop 16 x)) c.history (past_y f.ring) ∙ after_16;

@@ -25,7 +25,7 @@ scaled_range a m k norm =
 -- the root of such a number has 24 digits
 pub root_range : (n q : ℕ) → 2 ^ 46 ≤ n → n < 2 ^ 48 → WholeRoot n q → (2 ^ 23 ≤ q) × (q < 2 ^ 24)
 root_range n q lo hi w = (
-  ⊎_elim (λ l. absurd (omega (arith, square_le {a = q + 1} {b = 2 ^ 23} (omega arith), w.not-next))) (λ l. l) (lt_or_le q (2 ^ 23)),
+  ⊎_elim (λ l. absurd (omega (arith, square_le {a = q + 1} {b = 2 ^ 23} (omega arith), w.not_next))) (λ l. l) (lt_or_le q (2 ^ 23)),
   ⊎_elim (λ l. l) (λ l. absurd (omega (arith, square_le l, w.reached))) (lt_or_le q (2 ^ 24)),
 )
 
@@ -66,7 +66,7 @@ module _ (a m k q : ℕ) (norm : Normalised a m k) (w : WholeRoot (scaled m k) q
   below_square = rw (here, square_is, scaled_sum) (mul-le-mul_right (unit * unit) (omega (arith, square_of_sum q q, w.reached)))
 
   above_square : root_square a ≤ four_square (suc below)
-  above_square = rw (next, square_is, scaled_sum) (mul-le-mul_right (unit * unit) (omega (arith, square_of_sum (suc q) (suc q), subst (λ (x : ℕ). scaled m k < x * x) (add-one q) w.not-next)))
+  above_square = rw (next, square_is, scaled_sum) (mul-le-mul_right (unit * unit) (omega (arith, square_of_sum (suc q) (suc q), subst (λ (x : ℕ). scaled m k < x * x) (add-one q) w.not_next)))
 
   middle : mid_square below ≡ (q + suc q) * (q + suc q) * (unit * unit)
   unfolding mid_square

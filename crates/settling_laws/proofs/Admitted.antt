@@ -83,8 +83,8 @@ module _ {c : Lc3Config} {d : Decoder} (s : FitState c d) (f : Admitted c) where
       let k = held c d s in
       let z = k.sizes in
       let n = f.count in
-      let all : length (past_x c d ++ f.samples) ≡ c.history + c.nf = simp length-append (omega (arith, k.long-x)) in
-      simp length-drop (rw (outputs_long _ _ (filter_for (plan_for d f) f.numerators f.denominators) c.fs.fade (past_x c d ++ f.samples) (past_y c d) (omega (arith, k.long-y)), all) (omega arith))
+      let all : length (past_x c d ++ f.samples) ≡ c.history + c.nf = simp length-append (omega (arith, k.long_x)) in
+      simp length-drop (rw (outputs_long _ _ (filter_for (plan_for d f) f.numerators f.denominators) c.fs.fade (past_x c d ++ f.samples) (past_y c d) (omega (arith, k.long_y)), all) (omega arith))
 
   pub admit_fit : FitState c (admit d f).0
   unfolding accepted next_marks block_fits
@@ -95,7 +95,7 @@ module _ {c : Lc3Config} {d : Decoder} (s : FitState c d) (f : Admitted c) where
       record {
         found = rw (
           k.fitting.config,
-          stays_fit d.registers.marks c f.active f.lag f.lag-fits,
+          stays_fit d.registers.marks c f.active f.lag f.lag_fits_lem,
           next_block_lem c start (omega (arith, k.sizes)) k.block_within multiple,
         );
         inputs = stays_long d.x_hat_mem f.samples s.inputs f.count;

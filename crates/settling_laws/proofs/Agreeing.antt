@@ -73,12 +73,12 @@ module _ {c : Lc3Config} {a b : Decoder} (g : Agree c a b) (f : Admitted c) wher
       let inside_old : b.registers.marks.ltpf_active_prev ≡ true → Inside old (reach c.fs) =
       λ p. inside_reach c k old refl b.registers.marks.lag refl (rw p at lb.fitting.lag) in
       let x : Alike (oldest c) (past_x c a ++ f.samples) (past_x c b ++ f.samples) =
-      append_alike (oldest c) (past_x c a) (past_x c b) f.samples f.samples (omega (arith, la.long-x)) g.inputs refl in
+      append_alike (oldest c) (past_x c a) (past_x c b) f.samples f.samples (omega (arith, la.long_x)) g.inputs refl in
       rw (g.previous, g.lag, g.kept)
       (alike_later (oldest c) c.history _ _ (omega arith)
-      (outputs_alike (oldest c) (reach c.fs) c.fs.fade _ _ _ _ (omega (arith, la.long-y)) x g.outputs _ _ new
+      (outputs_alike (oldest c) (reach c.fs) c.fs.fade _ _ _ _ (omega (arith, la.long_y)) x g.outputs _ _ new
       (readable b.registers.marks.ltpf_active_prev f.active b.registers.marks.lag f.lag old new (reach c.fs) inside_old
-      (new_inside c k f.active f.gain f.lag f.numerators f.denominators f.lag-fits)))).rest
+      (new_inside c k f.active f.gain f.lag f.numerators f.denominators f.lag_fits_lem)))).rest
 
   same_mark : (admit a f).0.registers.marks.settled ≡ (admit b f).0.registers.marks.settled
   unfolding accepted next_marks
@@ -97,9 +97,9 @@ module _ {c : Lc3Config} {a b : Decoder} (g : Agree c a b) (f : Admitted c) wher
         run = cc;
         settled = same_mark;
         inputs = rw (past_x_next g.left f, past_x_next g.right f)
-            (moved_alike c.nf (oldest c) _ _ f.samples f.samples (omega (arith, la.long-x)) g.inputs refl);
+            (moved_alike c.nf (oldest c) _ _ f.samples f.samples (omega (arith, la.long_x)) g.inputs refl);
         outputs = rw (past_y_next g.left f, past_y_next g.right f)
-            (moved_alike c.nf (oldest c) _ _ _ _ (omega (arith, la.long-y)) g.outputs same_out);
+            (moved_alike c.nf (oldest c) _ _ _ _ (omega (arith, la.long_y)) g.outputs same_out);
       }
 
 module _ (c : Lc3Config) (f : Given) (a b : Decoder) (g : Agree c a b) where

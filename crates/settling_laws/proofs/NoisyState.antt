@@ -86,7 +86,7 @@ module _ (c : Lc3Config) (d : Decoder) (s : FitState c d) (p : d.registers.marks
       let x = past_x c d ++ silent c in
       let f = faded Out (length (past_y c d)) c.fs.fade old x in
       rw p (get_or-drop c.history _ j nan
-      ∙ get_or-append (grow f (past_y c d) c.fs.fade) _ nan (c.history + j) (omega (arith, k.long-y, length_grow f (past_y c d) c.fs.fade))
+      ∙ get_or-append (grow f (past_y c d) c.fs.fade) _ nan (c.history + j) (omega (arith, k.long_y, length_grow f (past_y c d) c.fs.fade))
       ∙ grow_nan f (λ y n. faded_nan Out (length (past_y c d)) c.fs.fade old x y (n _)) (past_y c d) h c.fs.fade (c.history + j))
 
   past_nan : (i : ℕ) → c.nf + i < c.history + c.fs.fade → at (past_y c (quieted c d (silent c)).0) i ≡ nan
@@ -96,9 +96,9 @@ module _ (c : Lc3Config) (d : Decoder) (s : FitState c d) (p : d.registers.marks
     where
       go : (b : Bool) → ltb (c.nf + i) c.history ≡ b → at (past_y c d ++ (quieted c d (silent c)).1) (c.nf + i) ≡ nan
       go true q =
-          get_or-append (past_y c d) _ nan (c.nf + i) (omega (arith, ltb-true (c.nf + i) c.history q, (held c d s).long-y)) ∙ h (c.nf + i)
+          get_or-append (past_y c d) _ nan (c.nf + i) (omega (arith, ltb-true (c.nf + i) c.history q, (held c d s).long_y)) ∙ h (c.nf + i)
       go false q =
-          let k = (held c d s).long-y in
+          let k = (held c d s).long_y in
           let late = ltb-false (c.nf + i) c.history q in
           let split : c.nf + i ≡ length (past_y c d) + (c.nf + i - c.history) = omega arith in
           ap (at (past_y c d ++ (quieted c d (silent c)).1)) split ∙ get_or-append-add (past_y c d) _ (c.nf + i - c.history) nan
@@ -114,7 +114,7 @@ module _ (c : Lc3Config) (d : Decoder) (s : FitState c d) (p : d.registers.marks
       let s2 = silent_fit c one s1 in
       let k = held c two s2 in
       let z = k.sizes in
-      let long = k.long-y in
+      let long = k.long_y in
       let within = reach_within c k.from in
       let frame_long = k.from.1.frame in
       let short = two_frames_short k.from.0 c.fs k.from.1.row c.n_ms in

@@ -56,7 +56,7 @@ module _ (c : Lc3Config) (d : Decoder) (s : FitState c d) (samples : List Float)
   unfolding accepted filtered transition_of new_filter
   quiet_copy p =
       let h = held c d s in
-      rw p (inactive_copies (kept_filter c.fs d.registers.marks d.kept) (no_filter c.fs.l_den) c.fs.fade c.history (past_x c d) (past_y c d) samples h.long-x h.long-y)
+      rw p (inactive_copies (kept_filter c.fs d.registers.marks d.kept) (no_filter c.fs.l_den) c.fs.fade c.history (past_x c d) (past_y c d) samples h.long_x h.long_y)
 
   -- after any frame those after the fade are
   quiet_tail : drop c.fs.fade (quieted c d samples).1 ≡ drop c.fs.fade samples
@@ -67,7 +67,7 @@ module _ (c : Lc3Config) (d : Decoder) (s : FitState c d) (samples : List Float)
       go false p = rw (quiet_copy p)
       go true p =
           let h = held c d s in
-          rw p (deactivated_copies (kept_filter c.fs d.registers.marks d.kept) (no_filter c.fs.l_den) c.fs.fade c.history (past_x c d) (past_y c d) samples h.long-x h.long-y)
+          rw p (deactivated_copies (kept_filter c.fs d.registers.marks d.kept) (no_filter c.fs.l_den) c.fs.fade c.history (past_x c d) (past_y c d) samples h.long_x h.long_y)
 
 -- the last so many samples of two states are alike
 record Near (c : Lc3Config) (a b : Decoder) (last : ℕ) : Type 0 where
@@ -103,8 +103,8 @@ module _ (c : Lc3Config) (a b : Decoder) (sa : FitState c a) (sb : FitState c b)
       let z = ha.sizes in
       let fade = c.fs.fade in
       near_moved (c.history + fade) (c.nf - fade) (omega (arith, ha.block_within))
-      (after_alike c.history fade (past_x c a) (past_x c b) samples samples ha.long-x hb.long-x refl refl)
-      (after_alike c.history fade (past_y c a) (past_y c b) _ _ ha.long-y hb.long-y
+      (after_alike c.history fade (past_x c a) (past_x c b) samples samples ha.long_x hb.long_x refl refl)
+      (after_alike c.history fade (past_y c a) (past_y c b) _ _ ha.long_y hb.long_y
       (quiet_long c a sa samples count ∙ sym (quiet_long c b sb samples count)) (quiet_tail c a sa samples count ∙ sym (quiet_tail c b sb samples count)))
 
   -- and each further one adds a whole frame
@@ -115,8 +115,8 @@ module _ (c : Lc3Config) (a b : Decoder) (sa : FitState c a) (sb : FitState c b)
       let ha = held c a sa in
       let same : (quieted c a samples).1 ≡ (quieted c b samples).1 = quiet_copy c a sa samples count pa ∙ sym (quiet_copy c b sb samples count pb) in
       near_moved (c.history - last) (last + c.nf) (omega arith)
-      (append_alike (c.history - last) (past_x c a) (past_x c b) samples samples (omega (arith, ha.long-x)) x refl)
-      (append_alike (c.history - last) (past_y c a) (past_y c b) _ _ (omega (arith, ha.long-y)) y same)
+      (append_alike (c.history - last) (past_x c a) (past_x c b) samples samples (omega (arith, ha.long_x)) x refl)
+      (append_alike (c.history - last) (past_y c a) (past_y c b) _ _ (omega (arith, ha.long_y)) y same)
 
 -- an inactive frame is remembered as such
 pub quieted_inactive : (c : Lc3Config) (d : Decoder) (samples : List Float) → (quieted c d samples).0.registers.marks.ltpf_active_prev ≡ false

@@ -62,10 +62,10 @@ longer c n f earlier restart p h less same = absurd (omega arith)
 longer c n f earlier active p h less same = absurd (omega arith)
 longer c n f earlier (quiet s) p h less same =
     let w = less (omega arith) in
-    record { late = f ∷ w.late; early = w.early; split = ap (λ (l : List Given). f ∷ l) w.split; quiet_only = rw p w.quiet-only; many = rw p (ap suc w.many) }
+    record { late = f ∷ w.late; early = w.early; split = ap (λ (l : List Given). f ∷ l) w.split; quiet_only = rw p w.quiet_only; many = rw p (ap suc w.many) }
 longer c n f earlier refusal p h less same =
     let w = same h in
-    record { late = f ∷ w.late; early = w.early; split = ap (λ (l : List Given). f ∷ l) w.split; quiet_only = rw p w.quiet-only; many = rw p w.many }
+    record { late = f ∷ w.late; early = w.early; split = ap (λ (l : List Given). f ∷ l) w.split; quiet_only = rw p w.quiet_only; many = rw p w.many }
 
 window : (c : Lc3Config) (n : ℕ) (fs : List Given) → n ≤ row (happenings c fs) → Window c n fs
 window c zero fs h = record { late = []; early = fs; split = refl; quiet_only = refl; many = refl }
@@ -90,8 +90,8 @@ module _ (c : Lc3Config) (a b : Decoder) (sa : FitState c a) (sb : FitState c b)
       rw (all, after_both a late early, after_both b late early)
       (settled_alike c (after_all a early) (after_all b early) fa fb late late
       (record {
-        left = rw ea w.quiet-only;
-        right = rw eb w.quiet-only;
+        left = rw ea w.quiet_only;
+        right = rw eb w.quiet_only;
         same = ap heard (ea ∙ sym eb);
         many = rw ea w.many;
       }))

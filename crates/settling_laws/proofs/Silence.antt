@@ -141,7 +141,7 @@ module _ (c : Lc3Config) (d : Decoder) (s : FitState c d) where
   older_output i h =
       rw (past_y_next s (quiet_frame c (silent c) (length_silent c)))
       (get_or-drop c.nf (past_y c d ++ (quieted c d (silent c)).1) i nan
-      ∙ get_or-append (past_y c d) _ nan (c.nf + i) (omega (arith, (held c d s).long-y)))
+      ∙ get_or-append (past_y c d) _ nan (c.nf + i) (omega (arith, (held c d s).long_y)))
 
   -- the first sample of an active frame after an inactive one
   pub first_sample : d.registers.marks.ltpf_active_prev ≡ false →
@@ -150,7 +150,7 @@ module _ (c : Lc3Config) (d : Decoder) (s : FitState c d) where
   first_sample p =
       let k = held c d s in
       let z = k.sizes in
-      let e : c.history + 0 ≡ length (past_y c d) = omega (arith, k.long-y) in
+      let e : c.history + 0 ≡ length (past_y c d) = omega (arith, k.long_y) in
       rw p (get_or-drop c.history _ 0 nan
       ∙ rw e (at_grown _ (grow (faded In (length (past_y c d)) c.fs.fade (loud_filter c) (past_x c d ++ silent c)) (past_y c d) c.fs.fade) _ (length (past_y c d))
       (omega (arith, length_grow (faded In (length (past_y c d)) c.fs.fade (loud_filter c) (past_x c d ++ silent c)) (past_y c d) c.fs.fade))

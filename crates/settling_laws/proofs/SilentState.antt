@@ -65,9 +65,9 @@ silent_next c d s =
     record {
       fit = silent_fit c d s.fit;
       inactive = quieted_inactive c d (silent c);
-      inputs = rw (past_x_next s.fit f) (moved_zero (past_x c d) (silent c) c.history c.nf k.long-x s.inputs (zero_samples c.nf));
+      inputs = rw (past_x_next s.fit f) (moved_zero (past_x c d) (silent c) c.history c.nf k.long_x s.inputs (zero_samples c.nf));
       outputs = rw (past_y_next s.fit f, quiet_copy c d s.fit (silent c) count s.inactive)
-          (moved_zero (past_y c d) (silent c) c.history c.nf k.long-y s.outputs (zero_samples c.nf));
+          (moved_zero (past_y c d) (silent c) c.history c.nf k.long_y s.outputs (zero_samples c.nf));
     }
 
 -- a gain times 0.0 is 0.0
@@ -104,8 +104,8 @@ silent_first c d s =
     let t = zero_filter c k.from in
     let i = inside_reach c k.from (loud_filter c) refl (longest c.fs) refl (longest_fits c.fs) in
     let e : length (past_y c d) - length (past_y c d) ≡ 0 = omega arith in
-    let x = append_zero (past_x c d) (silent c) c.history c.nf k.long-x s.inputs (zero_samples c.nf) in
-    let long = k.long-y in
+    let x = append_zero (past_x c d) (silent c) c.history c.nf k.long_x s.inputs (zero_samples c.nf) in
+    let long = k.long_y in
     first_sample c d s.fit s.inactive
     ∙ rw (
       F-zero (loud_filter c) (past_x c d ++ silent c) (past_y c d) (length (past_y c d)) (omega arith) (omega arith) t.0 t.1

@@ -32,11 +32,11 @@ loop-holds c =
 
 -- what a turn takes, and where it reads
 takes : (c : tie.In-loop invariant-loop decreases-loop) → Turn (length c.before.before.before.before.before.before.args.c.now) c.before.loop.j
-takes c = turn _ _ c.loop-test.true c.before.before.before.before.before.before.well-formed.1.0.1
+takes c = turn _ _ c.loop-test.true c.before.before.before.before.before.before.well_formed.1.0.1
 
 reads : (c : tie.In-loop invariant-loop decreases-loop) →
     let a = c.before.before.before.before.before.before.args in Back a.i (length a.x.now) c.before.loop.j
-reads c = back _ _ _ _ (takes c).l-there c.before.loop.invariant.2 c.before.loop.invariant.3
+reads c = back _ _ _ _ (takes c).l_there c.before.loop.invariant.2 c.before.loop.invariant.3
 
 loop-again : tie.Need-loop-preserved invariant-loop decreases-loop
 loop-again c =
@@ -68,21 +68,21 @@ add-fir-spec =
     (λ c κs. Prim.tt)
     returns
     loop-holds
-    (λ c. (takes c).k-fits)
-    (λ c. (takes c).l-fits)
-    (λ c. (takes c).k-bytes)
-    (λ c. (takes c.before).k-there)
-    (λ c. (reads c.before).k-back)
-    (λ c κs. (reads c.before).k-row)
-    (λ c. (takes c.before.before).l-bytes)
-    (λ c. (takes c.before.before.before).l-there)
-    (λ c. (reads c.before.before.before).l-back)
-    (λ c κs. (reads c.before.before.before).l-row)
+    (λ c. (takes c).k_fits)
+    (λ c. (takes c).l_fits)
+    (λ c. (takes c).k_bytes)
+    (λ c. (takes c.before).k_there)
+    (λ c. (reads c.before).k_back)
+    (λ c κs. (reads c.before).k_row)
+    (λ c. (takes c.before.before).l_bytes)
+    (λ c. (takes c.before.before.before).l_there)
+    (λ c. (reads c.before.before.before).l_back)
+    (λ c κs. (reads c.before.before.before).l_row)
     (λ c. (takes c.before.before.before.before).next)
     (λ c. (takes c.before.before.before.before).less)
     loop-again
-    (λ c. last_fits _ c.before.before.before.before.before.before.well-formed.1.0.1)
-    (λ c. last_bytes _ c.before.before.before.before.before.before.before.well-formed.1.0.1)
+    (λ c. last_fits _ c.before.before.before.before.before.before.well_formed.1.0.1)
+    (λ c. last_bytes _ c.before.before.before.before.before.before.before.well_formed.1.0.1)
     (λ c. c.before.if2.true)
     (λ c. last_back _ _ c.before.if2.true c.before.before.before.loop.invariant.2)
     (λ c κs. last_row _ _ _ c.before.before.before.loop.invariant.3)

@@ -11,14 +11,14 @@ returns : tie.Need-returns
 returns c = refl
 
 reads : (c : tie.Start) (k : ℕ) → T (leb k 7) → Inside (length c.args.x.now) c.args.i k
-reads c k t = inside _ _ c.requires c.well-formed.1.1.0.1 k t
+reads c k t = inside _ _ c.requires c.well_formed.1.1.0.1 k t
 
 pub sub-scaled-spec : {M : Type 1} → statement M
 sub-scaled-spec =
     tie.close
     (tie.spec
-    (λ c. first_bytes _ _ c.requires c.well-formed.1.1.0.1)
-    (λ c. first_there _ _ c.before.requires c.before.well-formed.1.1.0.1)
+    (λ c. first_bytes _ _ c.requires c.well_formed.1.1.0.1)
+    (λ c. first_there _ _ c.before.requires c.before.well_formed.1.1.0.1)
     (λ c. (reads c.before.before 1 tt).fits)
     (λ c. (reads c.before.before 1 tt).bytes)
     (λ c. (reads c.before.before.before 1 tt).there)

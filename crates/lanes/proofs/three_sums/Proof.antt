@@ -23,17 +23,17 @@ loop-holds c = let z = c.starting-at.ensures in (zero-le, record { first = z; se
 
 -- what a turn takes, and where it reads
 takes : (c : tie.In-loop invariant-loop decreases-loop) → Turn (length c.before.before.before.before.before.args.a.now) c.before.loop.m
-takes c = turn _ _ c.loop-test.true c.before.before.before.before.before.well-formed.0.1
+takes c = turn _ _ c.loop-test.true c.before.before.before.before.before.well_formed.0.1
 
 module _ (c : tie.In-loop invariant-loop decreases-loop) where
   from_i : let a = c.before.before.before.before.before.args in Ahead a.i (length a.x.now) c.before.loop.m
-  from_i = let s = c.before.before.before.before.before in ahead _ _ _ _ (takes c).l-there s.requires.0.1 s.well-formed.1.0.1
+  from_i = let s = c.before.before.before.before.before in ahead _ _ _ _ (takes c).l_there s.requires.0.1 s.well_formed.1.0.1
 
   from_j : let a = c.before.before.before.before.before.args in Ahead a.j (length a.x.now) c.before.loop.m
-  from_j = let s = c.before.before.before.before.before in ahead _ _ _ _ (takes c).l-there s.requires.1.0.1 s.well-formed.1.0.1
+  from_j = let s = c.before.before.before.before.before in ahead _ _ _ _ (takes c).l_there s.requires.1.0.1 s.well_formed.1.0.1
 
   from_k : let a = c.before.before.before.before.before.args in Ahead a.k (length a.x.now) c.before.loop.m
-  from_k = let s = c.before.before.before.before.before in ahead _ _ _ _ (takes c).l-there s.requires.1.1.1 s.well-formed.1.0.1
+  from_k = let s = c.before.before.before.before.before in ahead _ _ _ _ (takes c).l_there s.requires.1.1.1 s.well_formed.1.0.1
 
 loop-again : tie.Need-loop-preserved invariant-loop decreases-loop
 loop-again c =
@@ -66,32 +66,32 @@ three-sums-spec =
     decreases-loop
     (λ c κs. Prim.tt)
     loop-holds
-    (λ c. (takes c).k-fits)
-    (λ c. (takes c).k-bytes)
-    (λ c. (takes c.before).k-there)
-    (λ c. (from_i c.before).k-fits)
-    (λ c. (from_j c.before).k-fits)
-    (λ c. (from_k c.before).k-fits)
-    (λ c κs. ((from_i c.before).k-row, (from_j c.before).k-row, (from_k c.before).k-row))
-    (λ c. (takes c.before.before).l-fits)
-    (λ c. (takes c.before.before).l-bytes)
-    (λ c. (takes c.before.before.before).l-there)
-    (λ c. (from_i c.before.before.before).k-fits)
-    (λ c. (from_i c.before.before.before).l-fits)
-    (λ c. (from_j c.before.before.before).k-fits)
-    (λ c. (from_j c.before.before.before).l-fits)
-    (λ c. (from_k c.before.before.before).k-fits)
-    (λ c. (from_k c.before.before.before).l-fits)
-    (λ c κs. ((from_i c.before.before.before).l-row, (from_j c.before.before.before).l-row, (from_k c.before.before.before).l-row))
+    (λ c. (takes c).k_fits)
+    (λ c. (takes c).k_bytes)
+    (λ c. (takes c.before).k_there)
+    (λ c. (from_i c.before).k_fits)
+    (λ c. (from_j c.before).k_fits)
+    (λ c. (from_k c.before).k_fits)
+    (λ c κs. ((from_i c.before).k_row, (from_j c.before).k_row, (from_k c.before).k_row))
+    (λ c. (takes c.before.before).l_fits)
+    (λ c. (takes c.before.before).l_bytes)
+    (λ c. (takes c.before.before.before).l_there)
+    (λ c. (from_i c.before.before.before).k_fits)
+    (λ c. (from_i c.before.before.before).l_fits)
+    (λ c. (from_j c.before.before.before).k_fits)
+    (λ c. (from_j c.before.before.before).l_fits)
+    (λ c. (from_k c.before.before.before).k_fits)
+    (λ c. (from_k c.before.before.before).l_fits)
+    (λ c κs. ((from_i c.before.before.before).l_row, (from_j c.before.before.before).l_row, (from_k c.before.before.before).l_row))
     (λ c. (takes c.before.before.before.before).next)
     (λ c. (takes c.before.before.before.before).less)
     loop-again
-    (λ c. last_fits _ c.before.before.before.before.before.well-formed.0.1)
-    (λ c. last_bytes _ c.before.before.before.before.before.before.well-formed.0.1)
+    (λ c. last_fits _ c.before.before.before.before.before.well_formed.0.1)
+    (λ c. last_bytes _ c.before.before.before.before.before.before.well_formed.0.1)
     (λ c. c.before.if1.true)
-    (λ c. last_ahead_fits _ _ _ c.before.if1.true c.before.before.before.before.before.before.before.requires.0.1 c.before.before.before.before.before.before.before.well-formed.1.0.1)
-    (λ c. last_ahead_fits _ _ _ c.before.if1.true c.before.before.before.before.before.before.before.requires.1.0.1 c.before.before.before.before.before.before.before.well-formed.1.0.1)
-    (λ c. last_ahead_fits _ _ _ c.before.if1.true c.before.before.before.before.before.before.before.requires.1.1.1 c.before.before.before.before.before.before.before.well-formed.1.0.1)
+    (λ c. last_ahead_fits _ _ _ c.before.if1.true c.before.before.before.before.before.before.before.requires.0.1 c.before.before.before.before.before.before.before.well_formed.1.0.1)
+    (λ c. last_ahead_fits _ _ _ c.before.if1.true c.before.before.before.before.before.before.before.requires.1.0.1 c.before.before.before.before.before.before.before.well_formed.1.0.1)
+    (λ c. last_ahead_fits _ _ _ c.before.if1.true c.before.before.before.before.before.before.before.requires.1.1.1 c.before.before.before.before.before.before.before.well_formed.1.0.1)
     (λ c κs. (last_ahead _ _ _ c.before.if1.true c.before.before.before.before.before.before.before.requires.0.1, last_ahead _ _ _ c.before.if1.true c.before.before.before.before.before.before.before.requires.1.0.1, last_ahead _ _ _ c.before.if1.true c.before.before.before.before.before.before.before.requires.1.1.1))
     returns
     returns-2)

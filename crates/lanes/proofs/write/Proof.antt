@@ -11,7 +11,7 @@ use Rattle.lanes.proofs.write.Statement.{statement}
 use Rattle.lanes.proofs.write.Tie as tie
 
 reads : (c : tie.Start) (k : ℕ) → T (leb k 7) → Inside (length c.args.into.now) c.args.at k
-reads c k t = inside _ _ c.requires c.well-formed.0.1 k t
+reads c k t = inside _ _ c.requires c.well_formed.0.1 k t
 
 returns : tie.Need-returns
 unfolding stored listed
@@ -21,8 +21,8 @@ pub write_spec : {M : Type 1} → statement M
 write_spec =
     tie.close
     (tie.spec
-    (λ c. first_bytes _ _ c.requires c.well-formed.0.1)
-    (λ c. first_there _ _ c.requires c.well-formed.0.1)
+    (λ c. first_bytes _ _ c.requires c.well_formed.0.1)
+    (λ c. first_there _ _ c.requires c.well_formed.0.1)
     (λ c. (reads c 1 tt).fits)
     (λ c. (reads c 1 tt).bytes)
     (λ c. simp length-set (reads c 1 tt).there)

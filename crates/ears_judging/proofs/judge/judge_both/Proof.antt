@@ -22,7 +22,7 @@ judge-alike-requires : tie.Need-judge-alike-requires
 judge-alike-requires c κs =
     let m = c.before.before.before.before.before.before.before.before.before.before.before.args.left.registers.marks in
     let s = sized _ (from_table m.rate m.duration _ (sym c.before.before.before.config.ensures ∙ c.before.found.given.1)) in
-    record { some = s.frame-some; most = omega (arith, s.twice, s.line-fits) }
+    record { some = s.frame_some; most = omega (arith, s.twice, s.line_fits) }
 
 returns-3 : tie.Need-returns-3
 returns-3 c =

@@ -50,7 +50,7 @@ returns c =
     let twelve = c.before.before.before.before.before.before.before.before.before.before.before.before.before.before.before.before in
     c.done.ensures ∙ ap (λ (n : Encoder). done_frame c.before.before.before.before.before.before.found_in.result n) c.before.next.ensures
     ∙ joined a.t1 a.c a.resampling.now a.correlation.now a.signal.now a.frame.now a.nbits a.near-nyquist _ _ _ _ _ _
-    (step_usable _ _ _ j.row j.set.0) (within_same _ j.lag.0 j.lag.1) c.before.before.before.before.before.before.before.before.before.before.before.before.before.before.before.before.before.before.before.before.before.before.at-rate.ensures twelve.at-12p8.ensures.0 twelve.at-12p8.ensures.1 c.before.before.before.before.before.before.before.before.before.before.before.at-6p4.ensures
+    (step_usable _ _ _ j.row j.set.0) (within_same _ j.lag.0 j.lag.1) c.before.before.before.before.before.before.before.before.before.before.before.before.before.before.before.before.before.before.before.before.before.before.at-rate.ensures twelve.at_12p8.ensures.0 twelve.at_12p8.ensures.1 c.before.before.before.before.before.before.before.before.before.before.before.at_6p4.ensures
     c.before.before.before.before.before.before.before.before.before.pitch-detection.ensures c.before.before.before.before.before.before.found_in.ensures
 
 pub encode-spec : {M : Type 1} → statement M

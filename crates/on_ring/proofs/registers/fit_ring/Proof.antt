@@ -12,7 +12,7 @@ returns c = rw (← c.before.before.config.ensures, c.enum_told.given.1)
 ring-fits-requires : tie.Need-ring-fits-requires
 ring-fits-requires c κs =
     let m = c.before.before.before.before.before.args.registers.marks in
-    (sized _ (from_table m.rate m.duration _ (sym c.before.before.before.config.ensures ∙ c.before.found.given.1))).frame-some
+    (sized _ (from_table m.rate m.duration _ (sym c.before.before.before.config.ensures ∙ c.before.found.given.1))).frame_some
 
 returns-2 : tie.Need-returns-2
 returns-2 c =

@@ -32,7 +32,7 @@ sub-if1 : tie.Need-overflow-sub-if1 invariant-loop decreases-loop
 sub-if1 c = omega (arith, c.before.loop.invariant.fits)
 
 add-used : tie.Need-overflow-add-used invariant-loop decreases-loop
-add-used c = record { fits = omega (arith, c.before.before.before.before.before.before.before.before.before.before.before.before.before.before.before.before.before.before.well-formed.1.0.0) }
+add-used c = record { fits = omega (arith, c.before.before.before.before.before.before.before.before.before.before.before.before.before.before.before.before.before.before.well_formed.1.0.0) }
 
 loop-less : tie.Need-loop-smaller invariant-loop decreases-loop
 loop-less c = omega (arith, onward c.before.before.before.before.before.before.before.before.before.before)

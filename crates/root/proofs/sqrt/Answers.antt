@@ -11,8 +11,7 @@ use lib.Ieee.Positive.{above, first_pos}
 use borrow.Author.Tests.{ltb-true, ltb-false}
 use Rattle.root.specs.SquareRoot.{root_of}
 use Rattle.root.specs.declared.Root.TheVariants.{Root as found, NoRoot}
-use Rattle.root.proofs.sqrt.Statement.{statement}
-use Rattle.root.proofs.sqrt.Tie as tie
+use Rattle.root.proofs.sqrt.Goals as goal
 
 -- the constant 0.0
 abbrev nought : Float
@@ -46,17 +45,14 @@ neither (fin false zero e) h k = absurd (true≢false (simp zero-mul at h))
 neither (fin true (suc m) e) h k = refl
 neither (fin false (suc m) e) h k = absurd (omega (arith, mul-pos (zero-lt-suc m) (up_pos e), ltb-false (0 * down e) (suc m * up e * 1) k))
 
-returns : tie.Need-returns
-returns c = sym (equals_zero c.before.args.x c.if1.true)
+pub returns-then-x : goal.returns-then-x
+returns-then-x c = sym (equals_zero c.args.x c.if-x.true)
 
-root-above-zero-requires : tie.Need-root-above-zero-requires
-root-above-zero-requires c κs = above_zero c.before.before.args.x c.if2.true
+pub root_above_zero-requires : goal.root_above_zero-requires
+root_above_zero-requires c = above_zero c.args.x c.if-x-2.true
 
-returns-2 : tie.Need-returns-2
-returns-2 c = sym c.root-above-zero.ensures
+pub returns-then-x-2 : goal.returns-then-x-2
+returns-then-x-2 c = sym c.root_above_zero.ensures
 
-returns-3 : tie.Need-returns-3
-returns-3 c = sym (neither c.before.before.args.x c.before.if1.false c.if2.false)
-
-pub sqrt-spec : {M : Type 1} → statement M
-sqrt-spec = tie.close (tie.spec returns root-above-zero-requires returns-2 returns-3)
+pub returns : goal.returns
+returns c = sym (neither c.args.x c.if-x.false c.if-x-2.false)

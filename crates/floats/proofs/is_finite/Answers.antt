@@ -3,8 +3,7 @@ use mathlib.Core.Path.{◌≡◌, refl, sym}
 use mathlib.Core.Bool.{true, false, true≢false}
 use lib.Ieee.{Float, nan, inf, fin, lt, neg, div, of_bits}
 use Rattle.floats.specs.Single.{finite}
-use Rattle.floats.proofs.is_finite.Statement.{statement}
-use Rattle.floats.proofs.is_finite.Tie as tie
+use Rattle.floats.proofs.is_finite.Goals as goal
 
 between : (x : Float) → lt x (inf false) ≡ true → lt (inf true) x ≡ finite x
 unfolding lt
@@ -19,13 +18,10 @@ outside nan h = refl
 outside (inf s) h = refl
 outside (fin s m e) h = absurd (true≢false h)
 
-returns : tie.Need-returns
+pub returns-then-x-infinity : goal.returns-then-x-infinity
 unfolding lt neg div of_bits
-returns c = between c.before.args.x c.if1.true
+returns-then-x-infinity c = between c.args.x c.if-x-infinity.true
 
-returns-2 : tie.Need-returns-2
+pub returns : goal.returns
 unfolding lt div of_bits
-returns-2 c = outside c.before.args.x c.if1.false
-
-pub is-finite-spec : {M : Type 1} → statement M
-is-finite-spec = tie.close (tie.spec returns returns-2)
+returns c = outside c.args.x c.if-x-infinity.false

@@ -1,0 +1,14 @@
+-- `copy` replaces one entry a turn.
+use Prim.Native.Nat.{◌-◌, ◌≤◌}
+use mathlib.Core.Path.{◌≡◌, ◌∙◌}
+use native.Mathlib.Omega.{arith}
+use lib.ListN.{length, length-set}
+use Rattle.slices.proofs.Pasted.{pasted, none_pasted, one_pasted, all_pasted}
+use borrow.Author.Rules.{rules}
+use Rattle.slices.proofs.copy.Given as goal
+
+abbrev pub invariant-loop-i : goal.invariant-loop-i
+invariant-loop-i l = (l.i ≤ l.i-end) × (l.i-end ≡ length l.block) × (length l.into ≡ length l.initial.into) × (l.into ≡ pasted l.initial.into l.at l.block l.i)
+
+abbrev pub decreases-loop-i : goal.decreases-loop-i
+decreases-loop-i l = l.i-end - l.i
