@@ -49,13 +49,11 @@ returns-then-not-holds-3 c =
 
 pub three_sums-requires : goal.three_sums-requires
 three_sums-requires c =
-    let g = c.args in (
-      held g.a.now g.x.now g.i (sym c.holds.ensures ∙ c.if-not-holds.false),
-      (
-        held g.a.now g.x.now g.j (sym c.holds-2.ensures ∙ c.if-not-holds-2.false),
-        held g.a.now g.x.now g.k (sym c.holds-3.ensures ∙ c.if-not-holds-3.false),
-      ),
-    )
+    let g = c.args in record {
+      i_in_bounds = held g.a.now g.x.now g.i (sym c.holds.ensures ∙ c.if-not-holds.false);
+      j_in_bounds = held g.a.now g.x.now g.j (sym c.holds-2.ensures ∙ c.if-not-holds-2.false);
+      k_in_bounds = held g.a.now g.x.now g.k (sym c.holds-3.ensures ∙ c.if-not-holds-3.false);
+    }
 
 pub returns : goal.returns
 unfolding three_correlated
