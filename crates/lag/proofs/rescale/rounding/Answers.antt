@@ -39,5 +39,5 @@ pub returns : goal.returns
 returns c =
     let byte : c.dropped.result ≤ 255 =
         omega (arith, c.dropped.ensures) in
-    to_z-of_z w32 _ (sub-result c) ∙ of_bytes 4 c.dropped.result (omega arith) byte ∙ ap (sub_ℕ 4) c.dropped.ensures ∙
+    to_z-of_z w32 _ (difference_fits 4 c.dropped.result (omega arith) byte) ∙ of_bytes 4 c.dropped.result (omega arith) byte ∙ ap (sub_ℕ 4) c.dropped.ensures ∙
     sym (rounding_drops c.args.r c.args.quarters)
