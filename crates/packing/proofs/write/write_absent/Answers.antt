@@ -13,20 +13,15 @@ use Rattle.packing.specs.Form.{form}
 use Rattle.packing.specs.Writings.{sent_writing}
 use Rattle.packing.specs.declared.write.Writing.{Writing}
 use Rattle.packing.proofs.ByBytes.{written_over}
-use Rattle.packing.proofs.write.write_absent.Statement.{statement}
-use Rattle.packing.proofs.write.write_absent.Tie as tie
+use Rattle.packing.proofs.write.write_absent.Goals as goal
 
-returns : tie.Need-returns
+pub returns-then-bytes-gt0 : goal.returns-then-bytes-gt0
 unfolding form bytes_of value_of
-returns c =
-    let bytes : List ℕ = c.before.before.args.bytes.now in
+returns-then-bytes-gt0 c =
+    let bytes : List ℕ = c.args.bytes.now in
     ap {B = Writing × List ℕ} (λ (after : List ℕ). (record { answer = Done; written = 1 }, after)) (sets-eq (0 ∷ []) bytes 0 (search rules))
     ∙ sym (written_over Absent (0 ∷ []) bytes refl refl (search rules))
 
-returns-2 : tie.Need-returns-2
+pub returns : goal.returns
 unfolding sent_writing form bytes_of
-returns-2 c = rw (c.refused.ensures, lt-ltb (length c.before.before.before.args.bytes.now) 1 (search rules))
-
-pub write-absent-spec : {M : Type 1} → statement M
-write-absent-spec =
-    tie.close (tie.spec (λ c. search rules) (λ c. search rules) returns (λ c κs. search rules) returns-2)
+returns c = rw (c.refused.ensures, lt-ltb (length c.args.bytes.now) 1 (search rules))

@@ -6,8 +6,7 @@ use native.Mathlib.Omega.{arith}
 use borrow.Author.Tests.{lt-ltb, le-ltb, ne_eqb, eqb-true, eqb-false}
 use lib.Dec.{ltb, eqb}
 use Rattle.control.specs.State.{settled_limit, run_fits}
-use Rattle.control.proofs.fitness.run_fits.Statement.{statement}
-use Rattle.control.proofs.fitness.run_fits.Tie as tie
+use Rattle.control.proofs.fitness.run_fits.Goals as goal
 
 -- after an active frame only an empty run is fit
 active_run : (run : ℕ) (settled : Bool) → eqb run 0 ≡ run_fits true run settled
@@ -32,19 +31,16 @@ module _ (run : ℕ) where
   unfolding run_fits
   long_run settled h = rw (lt-ltb settled_limit run h)
 
-returns : tie.Need-returns
-returns c = rw c.if1.true (active_run c.before.args.run _)
+pub returns-then-active : goal.returns-then-active
+returns-then-active c = rw c.if-active.true (active_run c.args.run _)
 
-returns-2 : tie.Need-returns-2
-returns-2 c = rw c.before.if1.false (short_run _ _ c.if2.true)
+pub returns-then-run-lt-SETTLED_LIMIT : goal.returns-then-run-lt-SETTLED_LIMIT
+returns-then-run-lt-SETTLED_LIMIT c = rw c.if-active.false (short_run _ _ c.if-run-lt-SETTLED_LIMIT.true)
 
-returns-3 : tie.Need-returns-3
-returns-3 c = rw c.before.before.if1.false (full_run _ _ c.if3.true)
+pub returns-then-run-eq-SETTLED_LIMIT : goal.returns-then-run-eq-SETTLED_LIMIT
+returns-then-run-eq-SETTLED_LIMIT c = rw c.if-active.false (full_run _ _ c.if-run-eq-SETTLED_LIMIT.true)
 
-returns-4 : tie.Need-returns-4
-returns-4 c =
-    let a = c.before.before.before.args in
-    rw c.before.before.if1.false (long_run a.run _ (omega arith))
-
-pub run-fits-spec : {M : Type 1} → statement M
-run-fits-spec = tie.close (tie.spec returns returns-2 returns-3 returns-4)
+pub returns : goal.returns
+returns c =
+    let a = c.args in
+    rw c.if-active.false (long_run a.run _ (omega arith))
