@@ -6,8 +6,7 @@ use native.Mathlib.Omega.{arith}
 use borrow.Author.Rules.{rules}
 use borrow.Author.Tests.{eq-eqb, ne_eqb, eqb-true, eqb-false}
 use lib.Dec.{eqb}
-use Rattle.judging.proofs.lent.has_rows.Statement.{statement}
-use Rattle.judging.proofs.lent.has_rows.Tie as tie
+use Rattle.judging.proofs.lent.has_rows.Goals as goal
 
 rows : (n s k : ℕ) → n % 4 ≡ 0 → eqb (n / 4 + s) k ≡ eqb (n + 4 * s) (4 * k)
 rows n s k m = go (eqb (n + 4 * s) (4 * k)) refl
@@ -19,11 +18,8 @@ rows n s k m = go (eqb (n + 4 * s) (4 * k)) refl
 not_rows : (n s k : ℕ) → (n % 4 ≡ 0 → ⊥) → false ≡ eqb (n + 4 * s) (4 * k)
 not_rows n s k h = sym (ne_eqb (n + 4 * s) (4 * k) (λ q. h (omega arith)))
 
-returns : tie.Need-returns
-returns c = rows _ _ _ c.if1.true
+pub returns-then-set-eq0 : goal.returns-then-set-eq0
+returns-then-set-eq0 c = rows _ _ _ c.if-set-eq0.true
 
-returns-2 : tie.Need-returns-2
-returns-2 c = not_rows _ _ _ c.if1.false
-
-pub has-rows-spec : {M : Type 1} → statement M
-has-rows-spec = tie.close (tie.spec (λ c. search rules) returns returns-2)
+pub returns : goal.returns
+returns c = not_rows _ _ _ c.if-set-eq0.false
