@@ -5,8 +5,7 @@ use borrow.Author.Rules.{rules}
 use Rattle.rates.specs.Answers.{number_of}
 use Rattle.rates.specs.declared.answer.Answer.{Answer}
 use Rattle.rates.specs.declared.answer.Answer.TheVariants.{Done, UnknownRate, UnknownDuration, CoefficientCount, CoefficientNotFinite, SampleCount, TooManyBits, IndexTooLarge, SampleOutOfRange, UnfitState, MalformedLine, WrongFrameNumber, PaddingSet, EarsDiffer, TooFewBytes}
-use Rattle.c_arrays.proofs.words.answer_word.Statement.{statement}
-use Rattle.c_arrays.proofs.words.answer_word.Tie as tie
+use Rattle.c_arrays.proofs.words.answer_word.Goals as goal
 
 small : (a : Answer) → number_of a ≤ 99
 small Done = omega arith
@@ -25,14 +24,5 @@ small PaddingSet = omega arith
 small EarsDiffer = omega arith
 small TooFewBytes = omega arith
 
-number-requires : tie.Need-number-requires
-number-requires c κs = search rules
-
-cast-result : tie.Need-overflow-cast-result
-cast-result c = omega (arith, c.number.ensures, small c.before.args.answer)
-
-returns : tie.Need-returns
-returns c = search rules
-
-pub answer-word-spec : {M : Type 1} → statement M
-answer-word-spec = tie.close (tie.spec number-requires cast-result returns)
+pub overflow_cast-result : goal.overflow_cast-result
+overflow_cast-result c = omega (arith, c.number.ensures, small c.args.answer)
