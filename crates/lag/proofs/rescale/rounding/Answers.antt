@@ -10,8 +10,7 @@ use mir.Val.{SFits, to_z}
 use mir.ValLaws.{to_z_pos, to_z-of_z}
 use Rattle.lag.proofs.Rounding.{difference, rounding_drops}
 use borrow.Author.Rules.{rules}
-use Rattle.lag.proofs.rescale.rounding.Statement.{statement}
-use Rattle.lag.proofs.rescale.rounding.Tie as tie
+use Rattle.lag.proofs.rescale.rounding.Goals as goal
 
 -- the difference of two bytes, and that it fits
 of_bytes : (a b : ℕ) → a ≤ 255 → b ≤ 255 → to_z w32 a -ℤ to_z w32 b ≡ sub_ℕ a b
@@ -24,19 +23,21 @@ difference_fits a b g h = rw (of_bytes a b g h) (go (ltb a b))
     go true = record { sfits = omega arith }
     go false = record { sfits = omega arith }
 
-byte : (c : tie.After-dropped) → c.dropped.result ≤ 255
-byte c = omega (arith, c.dropped.ensures)
+pub overflow_cast-result : goal.overflow_cast-result
+overflow_cast-result c =
+    let byte : c.dropped.result ≤ 255 =
+        omega (arith, c.dropped.ensures) in
+    record { sfits = omega (arith, byte) }
 
-cast-result : tie.Need-overflow-cast-result
-cast-result c = record { sfits = omega (arith, byte c) }
+pub overflow_sub-result : goal.overflow_sub-result
+overflow_sub-result c =
+    let byte : c.dropped.result ≤ 255 =
+        omega (arith, c.dropped.ensures) in
+    search (rules, difference_fits, byte)
 
-sub-result : tie.Need-overflow-sub-result
-sub-result c = search (rules, difference_fits, byte c)
-
-returns : tie.Need-returns
+pub returns : goal.returns
 returns c =
-    to_z-of_z w32 _ (sub-result c) ∙ of_bytes 4 c.dropped.result (omega arith) (byte c) ∙ ap (sub_ℕ 4) c.dropped.ensures ∙
-    sym (rounding_drops c.before.args.r c.before.args.quarters)
-
-pub rounding-spec : {M : Type 1} → statement M
-rounding-spec = tie.close (tie.spec (λ c κs. search rules) cast-result sub-result returns)
+    let byte : c.dropped.result ≤ 255 =
+        omega (arith, c.dropped.ensures) in
+    to_z-of_z w32 _ (difference_fits 4 c.dropped.result (omega arith) byte) ∙ of_bytes 4 c.dropped.result (omega arith) byte ∙ ap (sub_ℕ 4) c.dropped.ensures ∙
+    sym (rounding_drops c.args.r c.args.quarters)
