@@ -1,5 +1,5 @@
 -- `window_sums` sums three times eight windows a turn, and the last two by themselves.
-use Prim.Native.Nat.{ℕ, ◌+◌, ◌-◌, ◌*◌, ◌≤◌, ◌<◌}
+use Prim.Native.Nat.{ℕ, ◌+◌, ◌*◌, ◌≤◌, ◌<◌}
 use mathlib.Core.Path.{◌≡◌, refl, ◌∙◌, ap}
 use mathlib.Core.Bool.{Bool, true, false}
 use mathlib.Core.List.{List}
@@ -11,22 +11,11 @@ use lib.Ieee.{Float, nan}
 use lib.ListN.{length, set, length-set}
 use lib.Seq.{get_or-set_same, get_or-set_other}
 use Rattle.floats.specs.Single.{at}
-use Rattle.lanes.specs.Sums.{product_sum, window}
 use Rattle.search.specs.Lists.{list_of}
 use Rattle.search.specs.Blocks.{eight}
 use Rattle.search.proofs.Listed.{as_list_of}
 use Rattle.search.proofs.Blocks.{length_three, three_kept, three_in}
-use Rattle.search.proofs.pitch.window_sums.Statement.{statement}
-use Rattle.search.proofs.pitch.window_sums.Tie as tie
-
-abbrev sum : List Float → ℕ → ℕ → Float
-sum x len i = product_sum (window x 114) (window x (0 + i)) len
-
-abbrev invariant-loop : tie.invariant-loop
-invariant-loop x-6p4 len6p4 sums₀ b₀ sums b = (b ≤ 4) × (length sums ≡ 98) × ((k : ℕ) → k < 24 * b → at sums k ≡ sum x-6p4 len6p4 k)
-
-abbrev decreases-loop : tie.decreases-loop
-decreases-loop x-6p4 len6p4 sums₀ b₀ sums b = 4 - b
+use Rattle.search.proofs.pitch.window_sums.Goals as goal
 
 -- a turn more
 grown : (f : ℕ → Float) (r s : List Float) (b : ℕ) → length r ≡ 98 → b < 4 → ((k : ℕ) → k < 24 * b → at r k ≡ f k) →
@@ -62,40 +51,19 @@ all f r u v l g a b = as_list_of f _ 98 (simp length-set l) (λ k d. last k d (l
     last k d true y = let h : k < 97 = ltb-true k 97 y in get_or-set_other (set r 96 u) 97 k v nan (λ e. omega arith) ∙ first k h (ltb k 96) refl
     last k d false y = let e : k ≡ 97 = omega (arith, ltb-false k 97 y) in rw e (get_or-set_same (set r 96 u) 97 v nan (omega (arith, long)) ∙ b)
 
-loop-holds : tie.Need-loop-init invariant-loop decreases-loop
-loop-holds c = (search rules, search rules, λ k l. absurd (omega arith))
+pub loop-b-init : goal.loop-b-init
+loop-b-init c = (search rules, search rules, λ k l. absurd (omega arith))
 
-loop-again : tie.Need-loop-preserved invariant-loop decreases-loop
-loop-again c =
-    let l = c.before.before.before.before.before.loop in
-    let e = c.before.put-sums.ensures in (
+pub loop-b-preserved : goal.loop-b-preserved
+loop-b-preserved c =
+    let l = c.loop-b in
+    let e = c.put_sums.ensures in (
       search rules,
       ap length e ∙ length_three _ (24 * l.b) (24 * l.b + 8) (24 * l.b + 16) l.sums (omega arith) (omega arith) (omega arith) ∙ l.invariant.1,
       grown _ l.sums _ l.b l.invariant.1 (search rules) l.invariant.2 e,
     )
 
-returns : tie.Need-returns invariant-loop decreases-loop
+pub returns : goal.returns
 returns c =
-    let l = c.before.before.before.before.before.loop in
-    all _ l.sums _ _ l.invariant.1 (λ k h. l.invariant.2 k (omega arith)) c.before.before.sum-of-products.ensures c.sum-of-products2.ensures
-
-pub window-sums-spec : {M : Type 1} → statement M
-window-sums-spec =
-    tie.close
-    (tie.spec
-    invariant-loop
-    decreases-loop
-    loop-holds
-    (λ c. search rules)
-    (λ c. search rules)
-    (λ c. search rules)
-    (λ c. search rules)
-    (λ c κs. search rules)
-    (λ c. search rules)
-    (λ c. search rules)
-    loop-again
-    (λ c κs. search rules)
-    (λ c. search rules)
-    (λ c κs. search rules)
-    (λ c. search rules)
-    returns)
+    let l = c.loop-b in
+    all _ l.sums _ _ l.invariant.1 (λ k h. l.invariant.2 k (omega arith)) c.sum_of_products.ensures c.sum_of_products-2.ensures
