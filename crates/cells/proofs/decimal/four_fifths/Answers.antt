@@ -1,8 +1,7 @@
 -- `four_fifths`: with each sum the part of n that is missing is squared, and rounding takes less than one more.
 use Prim.Native.Nat.{ℕ, ◌+◌, ◌*◌, ◌/◌, ◌≤◌, ◌<◌, ◌^◌}
 use native.Mathlib.Omega.{arith}
-use Rattle.cells.proofs.decimal.four_fifths.Statement.{statement}
-use Rattle.cells.proofs.decimal.four_fifths.Tie as tie
+use Rattle.cells.proofs.decimal.four_fifths.Goals as goal
 
 -- e is b/a of n, or too little by at most k/a
 abbrev Near : ℕ → ℕ → ℕ → ℕ → ℕ → Type 0
@@ -23,8 +22,5 @@ near_3 n e h = omega arith
 near_4 : (n e : ℕ) → n < 2 ^ 64 → Near 1073741824 858993459 6442450944 n e → Near 5 4 40 n (e + e / 4294967296)
 near_4 n e b h = omega arith
 
-returns : tie.Need-returns
+pub returns : goal.returns
 returns c = near_4 _ _ (omega arith) (near_3 _ _ (near_2 _ _ (near_1 _ _ (near_0 c.args.n))))
-
-pub four-fifths-spec : {M : Type 1} → statement M
-four-fifths-spec = tie.close (tie.spec (λ c. omega arith) (λ c. omega arith) (λ c. omega arith) (λ c. omega arith) (λ c. omega arith) returns)
