@@ -1,7 +1,6 @@
 -- `take_line` holds byte after byte; what it is to give follows at each turn from what is held and what is left.
-use Prim.Native.Nat.{ℕ, ◌+◌, ◌-◌, ◌≤◌, ◌<◌}
+use Prim.Native.Nat.{ℕ, ◌+◌, ◌≤◌, ◌<◌}
 use mathlib.Core.Path.{◌≡◌, refl, sym, ◌∙◌}
-use mathlib.Core.Logic.{⊎_elim}
 use mathlib.Core.List.{List}
 use native.Mathlib.Numerals.{add-one}
 use native.Mathlib.Nat.{add-zero, add-suc, suc-add}
@@ -13,18 +12,11 @@ use Rattle.lines.specs.Fields.{byte_at}
 use Rattle.lines.specs.Machine.{held_step, held_after, line_taken}
 use Rattle.lines.specs.declared.held.Held.{Held}
 use Rattle.lines.specs.declared.held.Taken.{Taken}
-use Rattle.lines.proofs.held.take_line.Statement.{statement}
-use Rattle.lines.proofs.held.take_line.Tie as tie
+use Rattle.lines.proofs.held.take_line.Goals as goal
+use native.Mathlib.Omega.{arith}
 
 abbrev holding : List ℕ → ℕ → Held
 holding bytes len = record { bytes = bytes; len = len }
-
-abbrev invariant-loop : tie.invariant-loop
-invariant-loop input from bytes₀ len₀ at₀ bytes len at =
-    (length bytes ≡ 32) × (line_taken (holding bytes₀ len₀) (drop from input) from ≡ line_taken (holding bytes len) (drop at input) at)
-
-abbrev decreases-loop : tie.decreases-loop
-decreases-loop input from bytes₀ len₀ at₀ bytes len at = length input - at
 
 -- at byte i: a newline, one byte further, or the end
 here : (h : Held) (s : List ℕ) (i : ℕ) → i < length s → get_or s i 0 ≡ 10 → line_taken h (drop i s) i ≡ record { held = h; at = i }
@@ -55,35 +47,15 @@ again : (t : Taken) (bytes bytes' : List ℕ) (len len' : ℕ) (s : List ℕ) (i
     t ≡ line_taken (holding bytes' len') (drop (i + 1) s) (i + 1)
 again t bytes bytes' len len' s i e l n p = e ∙ rw (← p) (further (holding bytes len) s i l n)
 
-loop-holds : tie.Need-loop-init invariant-loop decreases-loop
-loop-holds c = (search rules, refl)
+pub loop-at-init : goal.loop-at-init
+loop-at-init c = (search rules, refl)
 
-returns : tie.Need-returns invariant-loop decreases-loop
-returns c = sym (c.before.before.before.loop.invariant.1 ∙ here _ _ _ c.before.before.loop-test.true c.if1.true)
+pub returns-then-b-eq10 : goal.returns-then-b-eq10
+returns-then-b-eq10 c = sym (c.loop-at.invariant.1 ∙ here _ _ _ c.loop-at-test.true c.if-b-eq10.true)
 
-loop-again : tie.Need-loop-preserved invariant-loop decreases-loop
-loop-again c =
-    let i = c.before.before.before.before.loop.invariant in
-    let l = c.before.before.before.loop-test.true in
-    let n = c.before.if1.false in
-    ⊎_elim (λ w. (rw w.1 (simp length-set i.0), rw (w.1, w.2) (again _ _ _ _ _ _ _ i.1 l n (kept _ _ _ n w.0.taken))))
-    (λ w. (rw w.1 i.0, rw (w.1, w.2) (again _ _ _ _ _ _ _ i.1 l n (passed _ _ _ n w.0.left)))) c.if2.branch
+pub loop-at-preserved : goal.loop-at-preserved
+loop-at-preserved c =
+    (grind (arith, length-set, c.loop-at.invariant.0), grind (arith, again, kept, passed, c.loop-at.invariant.1, c.loop-at-test.true, c.if-b-eq10.false))
 
-returns-2 : tie.Need-returns-2 invariant-loop decreases-loop
-returns-2 c = sym (c.before.loop.invariant.1 ∙ done _ _ _ c.loop-test.false)
-
-pub take-line-spec : {M : Type 1} → statement M
-take-line-spec =
-    tie.close
-    (tie.spec
-    invariant-loop
-    decreases-loop
-    loop-holds
-    (λ c. search rules)
-    returns
-    (λ c. search rules)
-    (λ c. search rules)
-    (λ c. search rules)
-    (λ c. search rules)
-    loop-again
-    returns-2)
+pub returns : goal.returns
+returns c = sym (c.loop-at.invariant.1 ∙ done _ _ _ c.loop-at-test.false)
