@@ -8,16 +8,16 @@ use lib.Ieee.Bits.{nan_bits_above, nan_bits_is}
 use borrow.Author.Rules.{rules}
 use Rattle.floats.proofs.bits.float_of.Goals as goal
 
-is_nan : (x : Float) → is_nan x ≡ true → x ≡ nan
+nan_told : (x : Float) → is_nan x ≡ true → x ≡ nan
 unfolding is_nan
-is_nan nan e = refl
-is_nan (inf s) e = absurd (true≢false (sym e))
-is_nan (fin s m e) p = absurd (true≢false (sym p))
+nan_told nan e = refl
+nan_told (inf s) e = absurd (true≢false (sym e))
+nan_told (fin s m e) p = absurd (true≢false (sym p))
 
 pub returns-then-bits-gt2139095040 : goal.returns-then-bits-gt2139095040
 unfolding div of_bits
 returns-then-bits-gt2139095040 c =
-    sym (is_nan (of_bits binary32 c.args.bits)
+    sym (nan_told (of_bits binary32 c.args.bits)
     (sym (nan_bits_is binary32 c.args.bits) ∙ nan_bits_above binary32 c.args.bits ∙ lt-ltb 0x7f80_0000 (c.args.bits % 0x8000_0000) c.if-bits-gt2139095040.true))
 
 pub float_from_bits-result : goal.float_from_bits-result

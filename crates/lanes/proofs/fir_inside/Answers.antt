@@ -1,0 +1,16 @@
+-- `fir_inside` makes the definition's two tests.
+use Prim.Native.Nat.{◌+◌}
+use native.Mathlib.Omega.{arith}
+use borrow.Author.Rules.{rules}
+use borrow.Author.Tests.{le-leb, lt-leb}
+use lib.ListN.{length}
+use Rattle.lanes.proofs.fir_inside.Goals as goal
+
+pub returns-then-x-lt8 : goal.returns-then-x-lt8
+returns-then-x-lt8 c = rw (lt-leb (c.args.i + 8) (length c.args.x.now) (omega arith))
+
+pub returns-then-i-x : goal.returns-then-i-x
+returns-then-i-x c = rw (lt-leb (c.args.i + 8) (length c.args.x.now) (omega arith))
+
+pub returns : goal.returns
+returns c = rw (le-leb (c.args.i + 8) (length c.args.x.now) (omega arith))
