@@ -1,5 +1,5 @@
 -- `start` writes the header, which fits, and holds nothing.
-use Rattle.std.proofs.Common.{arith, rules}
+use Rattle.std.proofs.Common.{arith}
 use Rattle.cells.proofs.Stores.{written}
 use Rattle.listing.proofs.machine.start.Goals as goal
 

@@ -1,9 +1,9 @@
 -- `feed` goes line by line, as `Going` says of any listing.
-use Rattle.std.proofs.Common.{◌≡◌, ◌-◌, ◌≤◌, ◌<◌, false, length, refl, ap, arith, rules, leb-false, leb-true}
+use Rattle.std.proofs.Common.{◌≡◌, ◌-◌, ◌<◌, false, length, refl, ap, arith}
 use Rattle.lines.specs.Machine.{full}
 use Rattle.lines.specs.declared.held.Taken.{Taken}
 use Rattle.lines.proofs.Cuts.{short, roomy}
-use Rattle.lines.proofs.Feeding.{Going, going_first, going_held, going_row, going_full, going_done}
+use Rattle.lines.proofs.Feeding.{going_first, going_held, going_row, going_full, going_done}
 use Rattle.listing.specs.Whole.{lag_rules}
 use Rattle.listing.proofs.machine.Listing.feed.Goals as goal
 
