@@ -8,9 +8,7 @@ use mir.Val.{to_z, of_z}
 use mir.ValLaws.{to_z_pos, to_z-of_z}
 use borrow.Author.Tests.{lt-ltb, le-ltb}
 use Rattle.vectors.specs.Numbers.{signed}
-use borrow.Author.Rules.{rules}
-use Rattle.vectors.proofs.numbers.signed_of_two.Statement.{statement}
-use Rattle.vectors.proofs.numbers.signed_of_two.Tie as tie
+use Rattle.vectors.proofs.numbers.signed_of_two.Goals as goal
 
 -- -1 - m, for an m below 2^15
 minus : (m : ℕ) → m < 32768 → negsuc 0 -ℤ to_z w16 m ≡ negsuc m
@@ -29,28 +27,11 @@ high n h f =
     to_z-of_z w16 (negsuc (65535 - n)) (record { sfits = omega arith }) ∙
     simp (le-ltb n 32768 h)
 
-of-two-requires : tie.Need-of-two-requires
-of-two-requires c κs = search rules
+pub overflow_sub-result-else-n-lt32768 : goal.overflow_sub-result-else-n-lt32768
+overflow_sub-result-else-n-lt32768 c = rw (minus (65535 - c.of_two-n.result) (omega arith)) (record { sfits = omega arith })
 
-cast-result : tie.Need-overflow-cast-result
-cast-result c = search rules
+pub returns-then-n-lt32768 : goal.returns-then-n-lt32768
+returns-then-n-lt32768 c = low _ c.if-n-lt32768.true ∙ ap signed c.of_two-n.ensures
 
-sub-result : tie.Need-overflow-sub-result
-sub-result c = search rules
-
-cast-result-2 : tie.Need-overflow-cast-result-2
-cast-result-2 c = search rules
-
-sub-result-2 : tie.Need-overflow-sub-result-2
-sub-result-2 c = rw (minus (65535 - c.before.of_two.result) (omega arith)) (record { sfits = omega arith })
-
-returns : tie.Need-returns
-returns c = low _ c.if1.true ∙ ap signed c.before.of_two.ensures
-
-returns-2 : tie.Need-returns-2
-returns-2 c = high _ c.if1.false (omega arith) ∙ ap signed c.before.of_two.ensures
-
-pub signed-of-two-spec : {M : Type 1} → statement M
-signed-of-two-spec =
-    tie.close
-    (tie.spec of-two-requires cast-result sub-result cast-result-2 sub-result-2 returns returns-2)
+pub returns-else-n-lt32768 : goal.returns-else-n-lt32768
+returns-else-n-lt32768 c = high _ c.if-n-lt32768.false (omega arith) ∙ ap signed c.of_two-n.ensures
