@@ -1,10 +1,10 @@
 -- A filter's coefficients in one array: written in two parts, and read back.
 use Prim.Native.Nat.{ℕ, ◌+◌, ◌-◌, ◌≤◌}
-use mathlib.Core.Path.{◌≡◌, refl, ◌∙◌}
+use mathlib.Core.Path.{◌≡◌, refl}
 use mathlib.Core.Bool.{Bool, true, false}
 use mathlib.Core.List.{List, ◌++◌, append-nil}
 use native.Mathlib.Omega.{arith}
-use lib.ListN.{length, take, drop, replicate, length-append, length-take, length-drop, length-map, length-replicate}
+use lib.ListN.{length, take, drop, length-append, length-take, length-drop, length-map, length-replicate}
 use lib.Seq.{take_at, drop_at, take_all, drop-length}
 use lib.Ieee.{Float}
 use borrow.Rule.Slice.PartMut.{put_mid}

@@ -2,11 +2,11 @@
 -- of the frame and the fade; no sample, coefficient or lag changes it. `at_most`: never more than one for each sample and one more for each of the fade.
 use Prim.Native.Nat.{ℕ, zero, suc, ◌+◌, ◌-◌, ◌≤◌}
 use mathlib.Core.Path.{◌≡◌, refl, ap, ◌∙◌}
-use mathlib.Core.List.{List, ◌++◌}
-use native.Mathlib.Nat.{zero-add, add-zero, add-suc}
+use mathlib.Core.List.{List}
+use native.Mathlib.Nat.{add-zero}
 use native.Mathlib.Omega.{arith}
 use lib.Ieee.{Float}
-use lib.ListN.{length, drop}
+use lib.ListN.{length}
 use Rattle.coefficients.specs.Coefficients.{Filter}
 use Rattle.filter.specs.Fade.{grow, steady, faded}
 use Rattle.filter.specs.Transition.{outputs, case_activated, case_deactivated, case_pitch_kept, case_pitch_changed}

@@ -1,5 +1,5 @@
 -- How far back a filter can read: never outside the used history, for every rate, duration, lag index and tap.
-use Prim.Native.Nat.{ℕ, ◌+◌, ◌-◌, ◌/◌, ◌≤◌}
+use Prim.Native.Nat.{ℕ, ◌+◌, ◌/◌, ◌≤◌}
 use mathlib.Core.Path.{◌≡◌}
 use native.Mathlib.Omega.{arith}
 use Rattle.rates.specs.Table.{row_of}

@@ -8,7 +8,6 @@ use Rattle.rates.specs.declared.table.FoundRate.{FoundRate}
 use Rattle.rates.specs.declared.duration.FrameDuration.{FrameDuration}
 use Rattle.rates.specs.declared.duration.FrameDuration.TheVariants.{TenMs, SevenPointFiveMs}
 use Rattle.rates.specs.declared.duration.FoundDuration.{FoundDuration}
-use Rattle.rates.specs.declared.duration.FoundDuration.TheVariants.{Duration}
 use Rattle.rates.specs.declared.config.Configured.{Configured}
 use Rattle.rates.specs.declared.config.Configured.TheVariants.{Config, Refused}
 

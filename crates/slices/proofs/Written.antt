@@ -6,7 +6,7 @@ use mathlib.Core.List.{List}
 use native.Mathlib.Omega.{arith}
 use borrow.Author.Tests.{ltb-true, ltb-false}
 use lib.Dec.{ltb}
-use lib.ListN.{length, take, set, get_or, length-set}
+use lib.ListN.{length, get_or, length-set}
 use lib.Seq.{get_or-set_same, get_or-set_other, set_out, paste, paste-zero, paste-suc, take-length}
 use lib.Ieee.{Float, nan}
 use Rattle.slices.specs.Slices.{stored, placed}

@@ -5,7 +5,6 @@ use lib.ListN.{length-take, length-append}
 use lib.Ieee.{of_bits, round}
 use Rattle.coefficients.specs.Coefficients.{filter_of}
 use Rattle.coefficients.proofs.LaidOut.{second_part, second_replaced}
-use borrow.Author.Rules.{rules}
 use Rattle.coefficients.proofs.active_filter.Goals as goal
 
 pub scale_row-requires : goal.scale_row-requires

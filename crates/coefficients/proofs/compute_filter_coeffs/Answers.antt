@@ -1,7 +1,6 @@
 -- `compute_filter_coeffs` goes by whether the frame is active.
 use lib.Ieee.{of_bits}
 use Rattle.coefficients.specs.Coefficients.{new_filter}
-use borrow.Author.Rules.{rules}
 use Rattle.coefficients.proofs.compute_filter_coeffs.Goals as goal
 
 pub returns-then-active : goal.returns-then-active

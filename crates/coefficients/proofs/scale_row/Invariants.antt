@@ -1,13 +1,9 @@
 -- `scale_row`: the row so far, scaled, stands in front of the entries not yet replaced.
-use Prim.Native.Nat.{ℕ, suc, ◌+◌, ◌-◌, ◌≤◌, ◌<◌}
-use mathlib.Core.Path.{◌≡◌, ◌∙◌}
-use mathlib.Core.List.{List, [], ◌∷◌, ◌++◌, map, map-append}
-use native.Mathlib.Numerals.{add-one}
-use native.Mathlib.Omega.{arith}
-use borrow.Author.Rules.{rules}
-use lib.ListN.{length, take, drop, set, get_or, length-set, length-map}
-use lib.Seq.{set_at, drop-cons, append_snoc, take-suc, take-length, length-take-le}
-use lib.Ieee.{Float, nan}
+use Prim.Native.Nat.{ℕ, ◌-◌, ◌≤◌}
+use mathlib.Core.Path.{◌≡◌}
+use mathlib.Core.List.{List, ◌++◌, map}
+use lib.ListN.{length, take, drop}
+use lib.Ieee.{Float}
 use Rattle.floats.specs.Single.{◌⊗◌}
 use Rattle.coefficients.proofs.scale_row.Given as goal
 

@@ -1,10 +1,8 @@
 -- `all_finite` holds the test of the entries so far beside that of the rest.
-use Prim.Native.Nat.{◌≤◌, ◌-◌}
 use mathlib.Core.Path.{◌≡◌, sym, ◌∙◌}
-use mathlib.Core.Bool.{◌&&◌}
 use native.Mathlib.Omega.{arith}
-use lib.ListN.{drop, length}
-use Rattle.floats.specs.Single.{finite, all_finite}
+use lib.ListN.{length}
+use Rattle.floats.specs.Single.{finite}
 use Rattle.floats.proofs.Tests.{one_more, none_left}
 use borrow.Author.Rules.{rules}
 use Rattle.floats.proofs.all_finite.Goals as goal

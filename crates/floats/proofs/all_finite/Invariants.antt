@@ -1,12 +1,9 @@
 -- `all_finite` holds the test of the entries so far beside that of the rest.
 use Prim.Native.Nat.{◌≤◌, ◌-◌}
-use mathlib.Core.Path.{◌≡◌, sym, ◌∙◌}
+use mathlib.Core.Path.{◌≡◌}
 use mathlib.Core.Bool.{◌&&◌}
-use native.Mathlib.Omega.{arith}
 use lib.ListN.{drop, length}
-use Rattle.floats.specs.Single.{finite, all_finite}
-use Rattle.floats.proofs.Tests.{one_more, none_left}
-use borrow.Author.Rules.{rules}
+use Rattle.floats.specs.Single.{all_finite}
 use Rattle.floats.proofs.all_finite.Given as goal
 
 abbrev pub invariant-loop-i : goal.invariant-loop-i

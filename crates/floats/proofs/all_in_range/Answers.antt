@@ -1,10 +1,8 @@
 -- `all_in_range` holds the test of the samples so far beside that of the rest.
-use Prim.Native.Nat.{◌≤◌, ◌-◌}
 use mathlib.Core.Path.{◌≡◌, sym, ◌∙◌}
-use mathlib.Core.Bool.{◌&&◌}
 use native.Mathlib.Omega.{arith}
-use lib.ListN.{drop, length}
-use Rattle.floats.specs.Single.{in_range, all_in_range}
+use lib.ListN.{length}
+use Rattle.floats.specs.Single.{in_range}
 use Rattle.floats.proofs.Tests.{one_more, none_left}
 use borrow.Author.Rules.{rules}
 use Rattle.floats.proofs.all_in_range.Goals as goal

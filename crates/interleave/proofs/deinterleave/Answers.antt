@@ -1,9 +1,8 @@
 -- `deinterleave` copies a sample of each ear a turn.
-use Prim.Native.Nat.{◌-◌, ◌≤◌}
-use mathlib.Core.Path.{◌≡◌, ◌∙◌}
+use mathlib.Core.Path.{◌∙◌}
 use native.Mathlib.Omega.{arith}
-use lib.ListN.{length, length-set}
-use Rattle.slices.proofs.Pasted.{pasted, none_pasted, one_pasted, all_pasted}
+use lib.ListN.{length-set}
+use Rattle.slices.proofs.Pasted.{none_pasted, one_pasted, all_pasted}
 use Rattle.interleave.specs.Turns.{lefts, rights}
 use Rattle.interleave.proofs.Buffers.{halves, at_second, at_right}
 use borrow.Author.Rules.{rules}

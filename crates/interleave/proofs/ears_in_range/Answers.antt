@@ -1,7 +1,6 @@
 -- `ears_in_range`: what holds of the whole buffer holds of each ear.
 use mathlib.Core.Path.{sym, ◌∙◌}
 use Rattle.interleave.proofs.Ranges.{all_of_both}
-use borrow.Author.Rules.{rules}
 use Rattle.interleave.proofs.ears_in_range.Goals as goal
 
 pub returns-then-all_in_range : goal.returns-then-all_in_range

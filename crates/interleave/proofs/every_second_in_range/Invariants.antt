@@ -1,12 +1,10 @@
 -- `every_second_in_range` holds the test of the samples so far beside that of the rest.
 use Prim.Native.Nat.{◌+◌, ◌-◌, ◌≤◌}
-use mathlib.Core.Path.{◌≡◌, sym, ◌∙◌}
+use mathlib.Core.Path.{◌≡◌}
 use mathlib.Core.Bool.{◌&&◌}
 use lib.ListN.{length, drop}
 use Rattle.floats.specs.Single.{all_in_range}
 use Rattle.interleave.specs.Turns.{every_second}
-use Rattle.interleave.proofs.Ranges.{one_more, none_left}
-use borrow.Author.Rules.{rules}
 use Rattle.interleave.proofs.every_second_in_range.Given as goal
 
 abbrev pub invariant-loop-i : goal.invariant-loop-i

@@ -1,15 +1,9 @@
 -- `interleave` copies a sample of each ear back a turn.
-use Prim.Native.Nat.{ℕ, ◌+◌, ◌-◌, ◌*◌, ◌≤◌}
-use mathlib.Core.Path.{◌≡◌, ◌∙◌}
-use mathlib.Core.List.{List}
-use native.Mathlib.Omega.{arith}
-use lib.ListN.{length, take, drop, length-set, length-drop}
-use lib.Seq.{length-take-le, get_or-take, get_or-drop}
-use lib.Ieee.{Float, nan}
-use Rattle.slices.proofs.Pasted.{pasted, none_pasted}
+use Prim.Native.Nat.{◌-◌, ◌*◌, ◌≤◌}
+use mathlib.Core.Path.{◌≡◌}
+use lib.ListN.{length, take, drop}
+use Rattle.slices.proofs.Pasted.{pasted}
 use Rattle.interleave.specs.Turns.{in_turn}
-use Rattle.interleave.proofs.Buffers.{pair_pasted, pairs_pasted}
-use borrow.Author.Rules.{rules}
 use Rattle.interleave.proofs.interleave.Given as goal
 
 abbrev pub invariant-loop-i : goal.invariant-loop-i

@@ -1,7 +1,6 @@
 -- `add_row` makes the definition's test without a sum that could wrap, and then adds.
 use Prim.Native.Nat.{◌+◌}
 use native.Mathlib.Omega.{arith}
-use borrow.Author.Rules.{rules}
 use borrow.Author.Tests.{le-leb, lt-leb}
 use lib.ListN.{length}
 use Rattle.lanes.specs.Lanes.{row_added}

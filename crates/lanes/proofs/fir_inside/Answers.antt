@@ -1,7 +1,6 @@
 -- `fir_inside` makes the definition's two tests.
 use Prim.Native.Nat.{◌+◌}
 use native.Mathlib.Omega.{arith}
-use borrow.Author.Rules.{rules}
 use borrow.Author.Tests.{le-leb, lt-leb}
 use lib.ListN.{length}
 use Rattle.lanes.proofs.fir_inside.Goals as goal

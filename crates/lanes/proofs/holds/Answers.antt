@@ -1,7 +1,6 @@
 -- `holds` makes the two tests.
 use Prim.Native.Nat.{◌+◌}
 use native.Mathlib.Omega.{arith}
-use borrow.Author.Rules.{rules}
 use borrow.Author.Tests.{le-leb, lt-leb}
 use lib.ListN.{length}
 use Rattle.lanes.proofs.holds.Goals as goal

@@ -1,13 +1,10 @@
 -- `sub_fir` takes two steps a turn; each reads inside x.
-use Prim.Native.Nat.{◌+◌, ◌-◌, ◌*◌, ◌/◌, ◌≤◌, zero-le}
-use mathlib.Core.Path.{◌≡◌, refl, sym, ◌∙◌}
+use Prim.Native.Nat.{◌+◌, ◌-◌, ◌*◌, ◌≤◌}
+use mathlib.Core.Path.{◌≡◌}
 use mathlib.Core.Bool.{true}
-use native.Mathlib.Nat.{le_antisymm}
-use borrow.Author.Tests.{not-true, not-false}
 use lib.ListN.{length}
 use Rattle.floats.specs.Single.{at}
-use Rattle.lanes.specs.Lanes.{minus, steps, fir_inside, fir_taken}
-use Rattle.lanes.proofs.InPairs.{two_more, all_taken, last_taken, inside, Turn, turn, Back, back, last_fits, last_bytes, last_back, last_row}
+use Rattle.lanes.specs.Lanes.{minus, steps, fir_inside}
 use Rattle.lanes.proofs.sub_fir.Given as goal
 
 abbrev pub invariant-loop-j : goal.invariant-loop-j

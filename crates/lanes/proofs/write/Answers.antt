@@ -1,12 +1,8 @@
 -- `write` makes eight stores in a row.
-use Prim.Native.Nat.{ℕ}
 use native.Mathlib.Numerals.{towards_suc}
-use lib.Dec.{T, leb}
-use lib.ListN.{length, length-set}
 use lib.Seq.{sets-eq}
 use Rattle.slices.specs.Slices.{stored}
 use Rattle.lanes.specs.Lanes.{listed}
-use Rattle.lanes.proofs.EightInside.{Inside, first_bytes, first_there, inside}
 use Rattle.lanes.proofs.write.Goals as goal
 
 pub returns : goal.returns

@@ -1,9 +1,8 @@
 -- `copy` replaces one entry a turn.
-use Prim.Native.Nat.{◌-◌, ◌≤◌}
-use mathlib.Core.Path.{◌≡◌, ◌∙◌}
+use mathlib.Core.Path.{◌∙◌}
 use native.Mathlib.Omega.{arith}
-use lib.ListN.{length, length-set}
-use Rattle.slices.proofs.Pasted.{pasted, none_pasted, one_pasted, all_pasted}
+use lib.ListN.{length-set}
+use Rattle.slices.proofs.Pasted.{none_pasted, one_pasted, all_pasted}
 use borrow.Author.Rules.{rules}
 use Rattle.slices.proofs.copy.Goals as goal
 

@@ -1,7 +1,6 @@
 -- `put` makes the definition's test without a sum that could wrap, and then copies.
 use Prim.Native.Nat.{◌+◌}
 use native.Mathlib.Omega.{arith}
-use borrow.Author.Rules.{rules}
 use borrow.Author.Tests.{le-leb, lt-leb}
 use lib.ListN.{length}
 use Rattle.slices.specs.Slices.{placed}

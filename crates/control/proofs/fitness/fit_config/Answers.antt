@@ -1,6 +1,5 @@
 -- `fit_config` finds the configuration by the names, and tests the marks by it.
 use Rattle.control.proofs.Tested.{failed, passed}
-use borrow.Author.Rules.{rules}
 use Rattle.control.proofs.fitness.fit_config.Goals as goal
 
 pub returns-in_default : goal.returns-in_default

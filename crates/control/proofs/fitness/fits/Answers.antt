@@ -1,6 +1,5 @@
 -- `fits` makes the definition's two tests.
 use Rattle.control.proofs.Tested.{failed, passed}
-use borrow.Author.Rules.{rules}
 use Rattle.control.proofs.fitness.fits.Goals as goal
 
 pub returns-then-not-lag_fits : goal.returns-then-not-lag_fits

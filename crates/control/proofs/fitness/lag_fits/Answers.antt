@@ -2,7 +2,6 @@
 use borrow.Author.Tests.{lt-leb, le-leb}
 use Rattle.lag.specs.Lag.{lag_of, quarters}
 use Rattle.control.specs.State.{lag_fits}
-use borrow.Author.Rules.{rules}
 use Rattle.control.proofs.fitness.lag_fits.Goals as goal
 
 pub returns-then-lag-smallest : goal.returns-then-lag-smallest

@@ -1,6 +1,5 @@
 -- `run_after` counts an inactive frame up to the limit.
 use native.Mathlib.Omega.{arith}
-use borrow.Author.Rules.{rules}
 use Rattle.control.proofs.next.run_after.Goals as goal
 
 pub returns-then-active : goal.returns-then-active

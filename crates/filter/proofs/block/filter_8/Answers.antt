@@ -1,7 +1,6 @@
 -- `filter_8` is the two sums, one after the other.
 use lib.Ieee.{of_bits}
 use Rattle.filter.specs.Blocks.{sums}
-use borrow.Author.Rules.{rules}
 use Rattle.filter.proofs.block.filter_8.Goals as goal
 
 pub returns : goal.returns

@@ -1,7 +1,6 @@
 -- `fade_factor` is one division, and a difference from 1.0 for the way out.
 use lib.Ieee.{of_bits, of_int}
 use Rattle.filter.specs.Fade.{factor}
-use borrow.Author.Rules.{rules}
 use Rattle.filter.proofs.fade.fade_factor.Goals as goal
 
 pub returns-in-In : goal.returns-in-In

@@ -1,14 +1,11 @@
 -- `filter_run` makes outputs in blocks of eight, the last of which may begin inside the one before it.
-use Prim.Native.Nat.{◌+◌, ◌-◌, ◌*◌, ◌/◌, ◌≤◌, min}
+use Prim.Native.Nat.{◌+◌, ◌*◌, min}
 use mathlib.Core.Path.{◌≡◌, refl, sym, ◌∙◌}
 use native.Mathlib.Omega.{arith}
-use lib.ListN.{length}
 use lib.Seq.{length-take-le}
-use Rattle.filter.specs.Fade.{grown}
-use Rattle.filter.specs.Blocks.{next_in, padded}
-use Rattle.coefficients.specs.Coefficients.{Filter, read_out}
+use Rattle.coefficients.specs.Coefficients.{read_out}
 use Rattle.filter.proofs.Growing.{grown_none}
-use Rattle.filter.proofs.EightLanes.{Usable, used_num, used_den, nearest, usable_array, used_num_lem, used_den_lem, turn_made, within_less}
+use Rattle.filter.proofs.EightLanes.{usable_array, used_num_lem, used_den_lem, turn_made, within_less}
 use borrow.Author.Rules.{rules}
 use Rattle.filter.proofs.fade.filter_run.Goals as goal
 

@@ -1,4 +1,3 @@
-use borrow.Author.Rules.{rules}
 use Rattle.filter.proofs.fade.weigh_8.Goals as goal
 
 pub returns : goal.returns

@@ -1,5 +1,4 @@
 -- `weigh_in` goes by the weighting.
-use borrow.Author.Rules.{rules}
 use Rattle.filter.proofs.fade.weigh_in.Goals as goal
 
 pub weigh_8-requires : goal.weigh_8-requires

@@ -1,7 +1,6 @@
 -- `activated`: the faded outputs, then the unfaded ones.
 use Rattle.coefficients.specs.Coefficients.{read_out}
 use Rattle.filter.proofs.Cases.{activated_line}
-use borrow.Author.Rules.{rules}
 use Rattle.filter.proofs.transition.activated.Goals as goal
 
 pub returns : goal.returns

@@ -1,7 +1,6 @@
 -- `deactivated`: the faded outputs, then the inputs that lie after them.
 use Rattle.coefficients.specs.Coefficients.{read_out}
 use Rattle.filter.proofs.Cases.{deactivated_line}
-use borrow.Author.Rules.{rules}
 use Rattle.filter.proofs.transition.deactivated.Goals as goal
 
 pub returns : goal.returns

@@ -1,7 +1,6 @@
 -- `filter_frame` goes by the transition.
 use Rattle.filter.specs.Transition.{outputs}
 use Rattle.filter.proofs.Cases.{inactive_line}
-use borrow.Author.Rules.{rules}
 use Rattle.filter.proofs.transition.filter_frame.Goals as goal
 
 pub activated-requires : goal.activated-requires

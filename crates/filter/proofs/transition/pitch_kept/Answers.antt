@@ -1,7 +1,6 @@
 -- `pitch_kept`: unfaded outputs.
 use Rattle.coefficients.specs.Coefficients.{read_out}
 use Rattle.filter.proofs.Cases.{kept_line}
-use borrow.Author.Rules.{rules}
 use Rattle.filter.proofs.transition.pitch_kept.Goals as goal
 
 pub returns : goal.returns

@@ -4,7 +4,6 @@ use mathlib.Core.Bool.{false, not, true≢false}
 use lib.Dec.{T}
 use lib.Ieee.{Float, nan, inf, fin, to_bits, is_nan, ne}
 use lib.Ieee.Compare.{differs_from_itself, nan_differs}
-use borrow.Author.Rules.{rules}
 use Rattle.floats.proofs.bits.bits_of.Goals as goal
 
 no_nan : (x : Float) → ne x x ≡ false → T (not (is_nan x))

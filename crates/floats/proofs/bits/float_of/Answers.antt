@@ -5,7 +5,6 @@ use mathlib.Core.Bool.{true, true≢false}
 use borrow.Author.Tests.{le-ltb, lt-ltb}
 use lib.Ieee.{Float, nan, inf, fin, binary32, of_bits, is_nan, div}
 use lib.Ieee.Bits.{nan_bits_above, nan_bits_is}
-use borrow.Author.Rules.{rules}
 use Rattle.floats.proofs.bits.float_of.Goals as goal
 
 nan_told : (x : Float) → is_nan x ≡ true → x ≡ nan

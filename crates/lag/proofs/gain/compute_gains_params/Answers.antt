@@ -2,7 +2,6 @@
 use borrow.Author.Tests.{lt-ltb, le-ltb}
 use lib.Ieee.{round, of_bits}
 use Rattle.lag.specs.Gain.{gain_of}
-use borrow.Author.Rules.{rules}
 use Rattle.lag.proofs.gain.compute_gains_params.Goals as goal
 
 pub returns-then-t-b : goal.returns-then-t-b

@@ -1,5 +1,4 @@
 -- `gain_ltpf_on` is the test at the last threshold.
-use borrow.Author.Rules.{rules}
 use Rattle.lag.proofs.gain.gain_ltpf_on.Goals as goal
 
 pub returns : goal.returns

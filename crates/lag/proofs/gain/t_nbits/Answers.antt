@@ -1,6 +1,5 @@
 -- `t_nbits` scales by the duration, as the definition does.
 use Rattle.lag.specs.Gain.{bits_of}
-use borrow.Author.Rules.{rules}
 use Rattle.lag.proofs.gain.t_nbits.Goals as goal
 
 pub returns-in-TenMs : goal.returns-in-TenMs

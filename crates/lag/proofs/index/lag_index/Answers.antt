@@ -2,7 +2,6 @@
 use borrow.Author.Tests.{lt-ltb, le-ltb, le-leb, lt-leb}
 use native.Mathlib.Omega.{arith}
 use Rattle.lag.specs.Lag.{index_of}
-use borrow.Author.Rules.{rules}
 use Rattle.lag.proofs.index.lag_index.Goals as goal
 
 pub returns-then-whole-le156 : goal.returns-then-whole-le156

@@ -1,7 +1,6 @@
 -- `unscaled_lag` goes by the same ranges as the definition.
 use borrow.Author.Tests.{le-leb, lt-leb}
 use Rattle.lag.specs.Lag.{quarters}
-use borrow.Author.Rules.{rules}
 use Rattle.lag.proofs.index.unscaled_lag.Goals as goal
 
 pub returns-then-pitch_index-gt511 : goal.returns-then-pitch_index-gt511

@@ -1,5 +1,4 @@
 -- `sent_of` goes by the cases of the record.
-use borrow.Author.Rules.{rules}
 use Rattle.lag.proofs.pitch.sent_of.Goals as goal
 
 pub returns-in-Present : goal.returns-in-Present

@@ -1,5 +1,4 @@
 -- `compute_filter_parameters` rescales the lag that it looked up.
-use borrow.Author.Rules.{rules}
 use Rattle.lag.proofs.rescale.compute_filter_parameters.Goals as goal
 
 pub returns-in_default : goal.returns-in_default

@@ -1,9 +1,6 @@
 -- `dropped`: the mask 7 leaves the remainder by 8.
-use Prim.Native.Nat.{◌+◌, ◌*◌, ◌≤◌}
-use native.Mathlib.Omega.{arith}
+use Prim.Native.Nat.{◌+◌, ◌*◌}
 use lib.Bits.{and_mask}
-use Rattle.lag.proofs.Rounding.{product_small}
-use borrow.Author.Rules.{rules}
 use Rattle.lag.proofs.rescale.dropped.Goals as goal
 
 pub returns : goal.returns

@@ -6,19 +6,18 @@ use native.Mathlib.Omega.{arith}
 use lib.Bits.{and_mask}
 use Rattle.lag.specs.Lag.{rescaled}
 use Rattle.lag.proofs.Rounding.{product_small}
-use borrow.Author.Rules.{rules}
 use Rattle.lag.proofs.rescale.rescale.Goals as goal
 
 pub overflow_mul-p_up-2 : goal.overflow_mul-p_up-2
 overflow_mul-p_up-2 c =
     let small : 5 * c.args.r * c.args.quarters ≤ 5 * 4294967295 * 65535 =
-        product_small c.args.r c.args.quarters (omega arith) (omega arith) in
+    product_small c.args.r c.args.quarters (omega arith) (omega arith) in
     omega (arith, small)
 
 pub overflow_add-p_up : goal.overflow_add-p_up
 overflow_add-p_up c =
     let small : 5 * c.args.r * c.args.quarters ≤ 5 * 4294967295 * 65535 =
-        product_small c.args.r c.args.quarters (omega arith) (omega arith) in
+    product_small c.args.r c.args.quarters (omega arith) (omega arith) in
     omega (arith, small)
 
 pub returns : goal.returns

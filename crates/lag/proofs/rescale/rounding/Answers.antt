@@ -26,18 +26,18 @@ difference_fits a b g h = rw (of_bytes a b g h) (go (ltb a b))
 pub overflow_cast-result : goal.overflow_cast-result
 overflow_cast-result c =
     let byte : c.dropped.result ≤ 255 =
-        omega (arith, c.dropped.ensures) in
+    omega (arith, c.dropped.ensures) in
     record { sfits = omega (arith, byte) }
 
 pub overflow_sub-result : goal.overflow_sub-result
 overflow_sub-result c =
     let byte : c.dropped.result ≤ 255 =
-        omega (arith, c.dropped.ensures) in
+    omega (arith, c.dropped.ensures) in
     search (rules, difference_fits, byte)
 
 pub returns : goal.returns
 returns c =
     let byte : c.dropped.result ≤ 255 =
-        omega (arith, c.dropped.ensures) in
+    omega (arith, c.dropped.ensures) in
     to_z-of_z w32 _ (difference_fits 4 c.dropped.result (omega arith) byte) ∙ of_bytes 4 c.dropped.result (omega arith) byte ∙ ap (sub_ℕ 4) c.dropped.ensures ∙
     sym (rounding_drops c.args.r c.args.quarters)

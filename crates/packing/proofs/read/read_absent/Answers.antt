@@ -1,5 +1,4 @@
 -- `read_absent`: below 128 a byte is clear exactly where it is 0.
-use borrow.Author.Rules.{rules}
 use borrow.Author.Tests.{ne_eqb}
 use Rattle.packing.proofs.ByBytes.{absent_read}
 use Rattle.packing.proofs.read.read_absent.Goals as goal

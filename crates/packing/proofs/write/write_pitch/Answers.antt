@@ -1,6 +1,5 @@
 -- `write_pitch` goes by what is sent of the record.
 use mathlib.Core.Path.{sym, ap, ◌∙◌}
-use borrow.Author.Rules.{rules}
 use Rattle.lag.specs.declared.pitch.Sent.{Sent}
 use Rattle.packing.specs.Writings.{sent_writing}
 use Rattle.packing.proofs.write.write_pitch.Goals as goal

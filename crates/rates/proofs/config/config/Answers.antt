@@ -1,11 +1,9 @@
 -- `config` looks the rate and the duration up, as the definition does.
-use borrow.Author.Rules.{rules}
 use mathlib.Core.Path.{◌≡◌, sym, ◌∙◌}
 use native.Mathlib.Omega.{arith}
 use Rattle.rates.specs.Table.{row_of}
 use Rattle.rates.specs.Durations.{duration_of}
 use Rattle.rates.proofs.Rows.{bound_at}
-use Rattle.rates.specs.declared.table.Rate.{Rate}
 use Rattle.rates.specs.declared.table.FoundRate.{FoundRate}
 use Rattle.rates.specs.declared.duration.FoundDuration.{FoundDuration}
 use Rattle.rates.proofs.config.config.Goals as goal

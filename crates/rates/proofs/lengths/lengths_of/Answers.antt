@@ -1,5 +1,4 @@
 -- `lengths_of` goes by the duration, as the definition does.
-use borrow.Author.Rules.{rules}
 use Rattle.rates.proofs.lengths.lengths_of.Goals as goal
 
 pub returns-in-TenMs : goal.returns-in-TenMs

@@ -1,5 +1,5 @@
 -- `row_of` gives the first row of the rate: the rows passed so far have other rates.
-use Prim.Native.Nat.{ℕ, ◌≤◌, ◌<◌, ◌+◌, ◌-◌}
+use Prim.Native.Nat.{ℕ, ◌<◌, ◌+◌}
 use mathlib.Core.Path.{◌≡◌, sym, ◌∙◌}
 use native.Mathlib.Numerals.{add-one}
 use native.Mathlib.Omega.{arith}
@@ -7,7 +7,7 @@ use borrow.Author.Rules.{rules}
 use borrow.Author.Tests.{eq-eqb, ne_eqb}
 use lib.ListN.{drop, get_or}
 use lib.Seq.{drop-cons}
-use Rattle.rates.specs.Table.{rates, row, find, row_of}
+use Rattle.rates.specs.Table.{rates, row, find}
 use Rattle.rates.specs.declared.table.Rate.{Rate}
 use Rattle.rates.specs.declared.table.FoundRate.TheVariants.{Row}
 use Rattle.rates.proofs.table.row_of.Goals as goal

@@ -3,7 +3,6 @@ use mathlib.Core.Path.{sym}
 use native.Mathlib.Omega.{arith}
 use lib.Seq.{length-take-le}
 use Rattle.rings.proofs.MovingPast.{straightened}
-use borrow.Author.Rules.{rules}
 use Rattle.rings.proofs.ring.straighten.Goals as goal
 
 pub slice_bounds-put-end-2 : goal.slice_bounds-put-end-2

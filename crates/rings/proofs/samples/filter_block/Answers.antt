@@ -5,7 +5,6 @@ use native.Mathlib.Omega.{arith}
 use lib.Seq.{length-take-le}
 use Rattle.rings.proofs.MovingPast.{line_in_ring, before_start}
 use Rattle.rings.proofs.StraightLines.{filterable_on, on_line}
-use borrow.Author.Rules.{rules}
 use Rattle.rings.proofs.samples.filter_block.Goals as goal
 
 pub slice_bounds-filter_lines-end : goal.slice_bounds-filter_lines-end

@@ -2,7 +2,6 @@
 use mathlib.Core.Path.{◌∙◌}
 use native.Mathlib.Omega.{arith}
 use Rattle.rings.proofs.StraightLines.{lines, put_back}
-use borrow.Author.Rules.{rules}
 use Rattle.rings.proofs.samples.filter_on.Goals as goal
 
 pub filter_frame-requires : goal.filter_frame-requires
