@@ -1,24 +1,39 @@
 // The inputs of a program, one after the other: the files that its arguments name. A dash stands for
 // standard input, and so does an argument that is not there.
-ghost use Rattle.std.specs.Prelude.{◌≡◌};
+ghost use Rattle.std.specs.Prelude.{◌≡◌, IfSome};
+ghost use Rattle.std.specs.Io.{ReadsAtMost};
 ghost use Rattle.io.specs.Counts.{IsPrefixLen};
 ghost use Rattle.arguments.specs.Inputs.{before, passed as Inputs·passed, after};
 
-use libc::{EINVAL, ENAMETOOLONG, STDERR_FILENO, STDIN_FILENO, STDOUT_FILENO};
+use crate::options::{count, is_there};
+use outcome::{Outcome, argument as put_argument, begin_message, failed, write_out};
+use std::env::FillError;
+use std::fs::File;
+use std::io;
+use std::io::Read;
 use std::num::wrapping_add_usize;
+use std::rt::Env;
+use std::str::from_utf8;
 
-// An input that can be read, by its descriptor, or why it cannot was said.
-#[derive(Clone, Copy)]
+// Where an input comes from: standard input, or a file that is open.
+#[derive(Drop)]
+pub enum Source {
+    Standard,
+    Named(File),
+}
+
+// An input that can be read, or why it cannot was said.
+#[derive(Drop)]
 pub enum Opened {
-    Input(i32),
+    Input(Source),
     Failed,
 }
 
-// Where a program is: at an argument, whose input is open under a descriptor, or is not open yet.
-#[derive(Clone, Copy)]
+// Where a program is: at an argument, whose input is open, or is not open yet.
+#[derive(Drop)]
 pub struct Inputs {
     pub argument: usize,
-    pub fd: i32,
+    pub source: Source,
     pub is_open: bool,
 }
 
@@ -34,98 +49,166 @@ pub enum Event {
 }
 
 // An event, how many bytes of a piece are in the buffer, and where the program is then.
-#[derive(Clone, Copy)]
+#[derive(Drop)]
 pub struct Next {
     pub event: Event,
     pub count: usize,
     pub inputs: Inputs,
 }
 
-// An argument that is longer than any path.
-fn fail_long(program: &[u8], argument: usize) {
-    io::write_all(STDERR_FILENO, program);
-    io::write_all(STDERR_FILENO, b": argument ");
-    io::print_decimal(STDERR_FILENO, argument as u64);
-    os::fail(b"");
-    outcome::failed();
+// What reads from an input.
+#[derive(Clone, Copy)]
+pub struct Reader<'a> {
+    rt: &'a HostRuntime,
+    source: &'a Source,
 }
 
-// The descriptor of the input that an argument names, or -1 where it cannot be opened, which was said.
-fn descriptor(argument: usize) -> i32 {
-    let mut space = io::buffer();
-    let program = outcome::program(&mut space);
-    let mut path = io::buffer();
-    let length = os::arg(argument, &mut path);
-    let error = os::errno();
-    if error == ENAMETOOLONG {
-        fail_long(program, argument);
-        return -1;
-    }
-    if error == EINVAL || check::same(&path[..length], b"-") {
-        return STDIN_FILENO;
-    }
-    let fd = os::open_read(&path[..length]);
-    if fd < 0 {
-        outcome::fail(program, &path[..length]);
-    }
-    fd
-}
-
-// Reads from the input that an argument names, as libc::read does, and says why it cannot. The names
-// are asked for before, since that loses errno.
-fn read(argument: usize, fd: i32, buffer: &mut [u8]) -> isize {
-    let mut space = io::buffer();
-    let program = outcome::program(&mut space);
-    let mut path = io::buffer();
-    let length = os::arg(argument, &mut path);
-    let got = libc::read(fd, buffer);
-    if got < 0 {
-        if fd == STDIN_FILENO {
-            outcome::fail(program, b"standard input");
-        } else {
-            outcome::fail(program, &path[..length]);
+// Reads from an input.
+fn read_from(rt: &HostRuntime, source: &Source, buffer: &mut [u8]) -> io::Result<usize>
+    ensures { ReadsAtMost result buffer.new }
+{
+    match source {
+        Source::Standard => {
+            let mut stdin = rt.stdin();
+            Read::read(&mut stdin, buffer)
+        }
+        Source::Named(file) => {
+            let mut file = file;
+            Read::read(&mut file, buffer)
         }
     }
-    got
+}
+
+impl<'a> Reader<'a> {
+    pub fn new(rt: &'a HostRuntime, source: &'a Source) -> Reader<'a> {
+        Reader { rt, source }
+    }
+}
+
+impl Read for Reader<'_> {
+    fn read(&mut self, buffer: &mut [u8]) -> io::Result<usize> {
+        read_from(self.rt, self.source, buffer)
+    }
+}
+
+// An argument that is longer than any path.
+fn fail_long(rt: &HostRuntime, outcome: &mut Outcome, argument: usize) {
+    begin_message(rt);
+    let _ = eprintln!(rt; "argument {argument}: File name too long");
+    failed(outcome);
+}
+
+// The system's number for a name that is no text: std opens no other.
+const EILSEQ: i32 = 84;
+
+fn open_file(rt: &HostRuntime, path: &[u8]) -> io::Result<File> {
+    match from_utf8(path) {
+        Ok(text) => File::open(rt, text),
+        Err(_) => Err(io::Error::from_raw_os_error(EILSEQ)),
+    }
+}
+
+// The input of a name, or nothing where it cannot be opened, which was said.
+fn named(rt: &HostRuntime, outcome: &mut Outcome, path: &[u8]) -> Option<Source> {
+    if path == b"-".as_slice() {
+        return Some(Source::Standard);
+    }
+    match open_file(rt, path) {
+        Ok(file) => Some(Source::Named(file)),
+        Err(error) => {
+            outcome::fail(rt, outcome, path, &error);
+            None
+        }
+    }
+}
+
+// The input that an argument names, or nothing where it cannot be opened, which was said.
+fn source_of(rt: &HostRuntime, outcome: &mut Outcome, argument: usize) -> Option<Source> {
+    let mut path = [0u8; 4096];
+    match rt.arg(argument, &mut path) {
+        Ok(length) => named(rt, outcome, &path[..length]),
+        Err(FillError::NotPresent) => Some(Source::Standard),
+        Err(FillError::TooLong) => {
+            fail_long(rt, outcome, argument);
+            None
+        }
+    }
+}
+
+// Says why the input that an argument names cannot be read.
+fn fail_read(
+    rt: &HostRuntime,
+    outcome: &mut Outcome,
+    argument: usize,
+    source: &Source,
+    error: &io::Error,
+) {
+    match source {
+        Source::Standard => outcome::fail(rt, outcome, b"standard input", error),
+        Source::Named(_) => {
+            let mut path = [0u8; 4096];
+            let length = put_argument(rt, argument, &mut path);
+            outcome::fail(rt, outcome, &path[..length], error);
+        }
+    }
+}
+
+// Reads from the input that an argument names, and answers how many bytes came, or nothing where it
+// cannot be read, which was said.
+fn read(
+    rt: &HostRuntime,
+    outcome: &mut Outcome,
+    argument: usize,
+    source: &Source,
+    buffer: &mut [u8],
+) -> Option<usize>
+    ensures { IfSome result (λ n. IsPrefixLen n buffer.new) }
+{
+    match read_from(rt, source, buffer) {
+        Ok(got) => Some(got),
+        Err(error) => {
+            fail_read(rt, outcome, argument, source, &error);
+            None
+        }
+    }
 }
 
 // Closes an input; standard input may be named again.
-pub fn close(fd: i32) {
-    if fd != STDIN_FILENO {
-        libc::close(fd);
+pub fn close(source: Source) {
+    match source {
+        Source::Standard => {}
+        Source::Named(_file) => {}
     }
 }
 
 // Opens the input that an argument names. A directory can be opened but not read, which reading no bytes
 // tells.
-pub fn open(argument: usize) -> Opened {
-    let fd = descriptor(argument);
-    if fd < 0 {
+pub fn open(rt: &HostRuntime, outcome: &mut Outcome, argument: usize) -> Opened {
+    let Some(source) = source_of(rt, outcome, argument) else {
+        return Opened::Failed;
+    };
+    let mut none = [0u8; 0];
+    if read(rt, outcome, argument, &source, &mut none).is_none() {
+        close(source);
         return Opened::Failed;
     }
-    let mut none = [0u8; 1];
-    if read(argument, fd, &mut none[..0]) < 0 {
-        close(fd);
-        return Opened::Failed;
-    }
-    Opened::Input(fd)
+    Opened::Input(source)
 }
 
 // Writes the argument that names an input, if it is there, on a line of standard output. Answers whether
 // that took it.
-pub fn write_name(argument: usize) -> bool {
-    if argument >= os::arg_count() {
+pub fn write_name(rt: &HostRuntime, outcome: &mut Outcome, argument: usize) -> bool {
+    if !is_there(rt, argument) {
         return true;
     }
-    let mut path = io::buffer();
-    let length = os::arg(argument, &mut path);
-    io::write_all(STDOUT_FILENO, &path[..length]);
-    outcome::write_out(b"\n")
+    let mut path = [0u8; 4096];
+    let length = put_argument(rt, argument, &mut path);
+    write_out(rt, outcome, &path[..length]) && write_out(rt, outcome, b"\n")
 }
 
 // The argument after those of the inputs. Where there are none, the first stands for standard input.
-pub fn end() -> usize {
-    let count = os::arg_count();
+pub fn end(rt: &HostRuntime) -> usize {
+    let count = count(rt);
     if count < 2 { 2 } else { count }
 }
 
@@ -135,7 +218,7 @@ fn at(argument: usize) -> Inputs
 {
     Inputs {
         argument,
-        fd: STDIN_FILENO,
+        source: Source::Standard,
         is_open: false,
     }
 }
@@ -155,12 +238,12 @@ fn passed(inputs: Inputs) -> Inputs
 }
 
 // Opens the input that is next.
-fn begin(inputs: Inputs) -> Next
-    ensures { (result.count ≡ 0) × (result.inputs ≡ after inputs result.inputs.fd result.event) }
+fn begin(rt: &HostRuntime, outcome: &mut Outcome, inputs: Inputs) -> Next
+    ensures { (result.count ≡ 0) × (result.inputs ≡ after inputs result.inputs.source result.event) }
 {
     let argument = inputs.argument;
-    let opened = open(argument);
-    let Opened::Input(fd) = opened else {
+    let opened = open(rt, outcome, argument);
+    let Opened::Input(source) = opened else {
         return Next {
             event: Event::Failed,
             count: 0,
@@ -172,7 +255,7 @@ fn begin(inputs: Inputs) -> Next
         count: 0,
         inputs: Inputs {
             argument,
-            fd,
+            source,
             is_open: true,
         },
     }
@@ -182,35 +265,33 @@ fn begin(inputs: Inputs) -> Next
 fn finish(inputs: Inputs) -> Inputs
     ensures { result ≡ Inputs·passed inputs }
 {
-    close(inputs.fd);
     passed(inputs)
 }
 
 // Goes on to the next event. A piece of an input is put at the start of the buffer.
-pub fn advance(inputs: Inputs, buffer: &mut [u8]) -> Next
+pub fn advance(rt: &HostRuntime, outcome: &mut Outcome, inputs: Inputs, buffer: &mut [u8]) -> Next
     ensures prefix_len { IsPrefixLen result.count buffer.new }
-    ensures inputs_value { result.inputs ≡ after inputs result.inputs.fd result.event }
+    ensures inputs_value { result.inputs ≡ after inputs result.inputs.source result.event }
 {
     let argument = inputs.argument;
     if !inputs.is_open {
-        if argument >= end() {
+        if argument >= end(rt) {
             return Next {
                 event: Event::Over,
                 count: 0,
                 inputs,
             };
         }
-        return begin(inputs);
+        return begin(rt, outcome, inputs);
     }
-    let got = read(argument, inputs.fd, buffer);
-    if got < 0 {
+    let got = read(rt, outcome, argument, &inputs.source, buffer);
+    let Some(count) = got else {
         return Next {
             event: Event::Failed,
             count: 0,
             inputs: finish(inputs),
         };
-    }
-    let count = io::count(got, buffer);
+    };
     if count == 0 {
         return Next {
             event: Event::Ended,

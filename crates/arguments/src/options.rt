@@ -1,5 +1,12 @@
 // Options: arguments that begin with two dashes. Every program has --help and --version, and no other.
-use libc::{STDERR_FILENO, STDOUT_FILENO};
+ghost use Rattle.std.specs.Prelude.{◌≡◌, true};
+ghost use Rattle.outcome.specs.Outcomes.{after_failure};
+
+use outcome::{
+    Outcome, argument as put_argument, begin_message, failed, tell, write_out, write_version,
+};
+use std::env::FillError;
+use std::rt::Env;
 
 // What an argument asks for.
 #[derive(Clone, Copy)]
@@ -10,6 +17,26 @@ enum Asked {
     Unknown(usize),
 }
 
+// Whether the program was called with an argument of that number, of which its own name is 0.
+pub fn is_there(rt: &HostRuntime, argument: usize) -> bool {
+    let mut none = [0u8; 0];
+    match rt.arg(argument, &mut none) {
+        Ok(_) => true,
+        Err(FillError::TooLong) => true,
+        Err(FillError::NotPresent) => false,
+    }
+}
+
+// How many arguments there are, the program's name among them.
+pub fn count(rt: &HostRuntime) -> usize {
+    for argument in 0..usize::MAX {
+        if !is_there(rt, argument) {
+            return argument;
+        }
+    }
+    usize::MAX
+}
+
 fn is_option(word: &[u8]) -> bool {
     if word.len() < 2 {
         return false;
@@ -17,14 +44,14 @@ fn is_option(word: &[u8]) -> bool {
     word[0] == b'-' && word[1] == b'-'
 }
 
-fn asked_by(argument: usize) -> Asked {
-    let mut space = io::buffer();
-    let length = os::arg(argument, &mut space);
+fn asked_by(rt: &HostRuntime, argument: usize) -> Asked {
+    let mut space = [0u8; 4096];
+    let length = put_argument(rt, argument, &mut space);
     let word = &space[..length];
-    if check::same(word, b"--help") {
+    if word == b"--help".as_slice() {
         return Asked::Help;
     }
-    if check::same(word, b"--version") {
+    if word == b"--version".as_slice() {
         return Asked::Version;
     }
     if is_option(word) {
@@ -34,9 +61,9 @@ fn asked_by(argument: usize) -> Asked {
 }
 
 // What the first option asks for.
-fn first_asked() -> Asked {
-    for argument in 1..os::arg_count() {
-        let asked = asked_by(argument);
+fn first_asked(rt: &HostRuntime) -> Asked {
+    for argument in 1..count(rt) {
+        let asked = asked_by(rt, argument);
         let Asked::Nothing = asked else {
             return asked;
         };
@@ -45,45 +72,58 @@ fn first_asked() -> Asked {
 }
 
 // Says that an argument is wrong, if it is there, and how the program is called.
-pub fn refuse(argument: usize, usage: &[u8]) {
-    if argument < os::arg_count() {
-        let mut space = io::buffer();
-        let length = os::arg(argument, &mut space);
-        outcome::begin_message();
-        io::write_all(STDERR_FILENO, &space[..length]);
-        io::write_all(STDERR_FILENO, b": wrong argument\n");
+pub fn refuse(rt: &HostRuntime, outcome: &mut Outcome, argument: usize, usage: &[u8])
+    ensures { outcome.new ≡ after_failure outcome.old }
+{
+    if is_there(rt, argument) {
+        let mut space = [0u8; 4096];
+        let length = put_argument(rt, argument, &mut space);
+        begin_message(rt);
+        tell(rt, &space[..length]);
+        tell(rt, b": wrong argument\n");
     }
-    io::write_all(STDERR_FILENO, usage);
-    outcome::failed();
+    tell(rt, usage);
+    failed(outcome);
 }
 
 // Does what the first option asks for, and answers whether the program is to run: it has no option,
 // and at most so many arguments. The usage is a line, and help the lines after it.
-pub fn is_to_run(usage: &[u8], help: &[u8], most: usize) -> bool {
-    let asked = first_asked();
+pub fn is_to_run(
+    rt: &HostRuntime,
+    outcome: &mut Outcome,
+    usage: &[u8],
+    help: &[u8],
+    most: usize,
+) -> bool
+    ensures { result ≡ true → outcome.new ≡ outcome.old }
+{
+    let asked = first_asked(rt);
     match asked {
         Asked::Help => {
-            io::write_all(STDOUT_FILENO, usage);
-            outcome::write_out(help);
+            if write_out(rt, outcome, usage) {
+                write_out(rt, outcome, help);
+            }
             false
         }
         Asked::Version => {
-            outcome::write_version();
+            write_version(rt, outcome);
             false
         }
         Asked::Unknown(argument) => {
-            refuse(argument, usage);
+            refuse(rt, outcome, argument, usage);
             false
         }
-        Asked::Nothing => is_few(usage, most),
+        Asked::Nothing => is_few(rt, outcome, usage, most),
     }
 }
 
 // Answers whether there are at most so many arguments, and refuses the first that is one too many.
-fn is_few(usage: &[u8], most: usize) -> bool {
-    let end = os::arg_count();
+fn is_few(rt: &HostRuntime, outcome: &mut Outcome, usage: &[u8], most: usize) -> bool
+    ensures { result ≡ true → outcome.new ≡ outcome.old }
+{
+    let end = count(rt);
     if most < end && most + 1 < end {
-        refuse(most + 1, usage);
+        refuse(rt, outcome, most + 1, usage);
         return false;
     }
     true

@@ -5,7 +5,7 @@ ghost use Rattle.std.specs.Prelude.{◌≡◌, false};
 ghost use Rattle.listing.specs.Machine.{first, after};
 
 use listing::machine::Listing;
-use outcome::write_out;
+use outcome::{Outcome, write_out};
 
 // The listing after some input, and whether it stopped before its end: where standard output took
 // no more, or the buffer has no space for a row. Why it stopped is said. No contract can say what
@@ -17,13 +17,13 @@ pub struct Pumped {
 }
 
 // A listing with its header written.
-pub fn begin() -> Pumped
+pub fn begin(rt: &HostRuntime, outcome: &mut Outcome) -> Pumped
     ensures { result.listing ≡ first }
 {
     let mut text = [0u8; 128];
     let begun = listing::machine::start(&mut text);
     let listing = begun.listing;
-    let is_written = write_out(&text[..35]);
+    let is_written = write_out(rt, outcome, &text[..35]);
     Pumped {
         listing,
         failed: !is_written,
@@ -31,12 +31,18 @@ pub fn begin() -> Pumped
 }
 
 // A caller's buffer has no space for a row.
-fn no_space() {
-    outcome::say(b"the listing's buffer has no space for a row");
+fn no_space(rt: &HostRuntime, outcome: &mut Outcome) {
+    outcome::say(rt, outcome, b"the listing's buffer has no space for a row");
 }
 
 // Feeds a piece of the input to the listing, and writes the rows that it makes by way of out.
-pub fn pump(from: Listing, input: &[u8], out: &mut [u8]) -> Pumped
+pub fn pump(
+    rt: &HostRuntime,
+    outcome: &mut Outcome,
+    from: Listing,
+    input: &[u8],
+    out: &mut [u8],
+) -> Pumped
     ensures { result.failed ≡ false → result.listing ≡ after from input.now }
 {
     let mut listing = from;
@@ -47,14 +53,14 @@ pub fn pump(from: Listing, input: &[u8], out: &mut [u8]) -> Pumped
         let next = fed.listing;
         listing = next;
         if fed.used == 0 {
-            no_space();
+            no_space(rt, outcome);
             return Pumped {
                 listing,
                 failed: true,
             };
         }
         at += fed.used;
-        if !write_out(&out[..written]) {
+        if !write_out(rt, outcome, &out[..written]) {
             return Pumped {
                 listing,
                 failed: true,
@@ -68,12 +74,12 @@ pub fn pump(from: Listing, input: &[u8], out: &mut [u8]) -> Pumped
 }
 
 // Writes what is left at the end of the input.
-pub fn end(listing: Listing) -> Pumped
+pub fn end(rt: &HostRuntime, outcome: &mut Outcome, listing: Listing) -> Pumped
     ensures { result.listing ≡ listing }
 {
     let mut text = [0u8; 128];
     let n = listing.finish(&mut text);
-    let is_written = write_out(&text[..n]);
+    let is_written = write_out(rt, outcome, &text[..n]);
     Pumped {
         listing,
         failed: !is_written,

@@ -1,24 +1,83 @@
-// How a program says that it failed, and under which name. It has no exit status, so it leaves a byte in
-// a file that `./run` holds open for it on descriptor 3, and `./run` then ends with status 1.
+// How a program says that it failed, and under which name; and the status that it ends with.
 #![tactic(auto)]
 
-ghost use Rattle.std.specs.Prelude.{◌≤◌, length};
+ghost use Rattle.std.specs.Prelude.{◌≡◌, ◌≤◌, length, true, false};
+ghost use Rattle.std.specs.Process.{exit_status};
+ghost use Rattle.io.specs.Counts.{IsPrefixLen};
+ghost use Rattle.outcome.specs.Outcomes.{fine, after_failure, is_taken, status_of};
 
-use libc::{STDERR_FILENO, STDOUT_FILENO};
+use std::fmt::Display;
+use std::io;
+use std::process::ExitCode;
+use std::rt::Env;
 
-const REPORT: i32 = 3;
+// What became of standard output: it took all that it was given; it took no more, which was said; or
+// nobody reads it any more.
+#[derive(Clone, Copy)]
+pub enum Output {
+    Open,
+    Lost,
+    Closed,
+}
 
-// What the file of `./run` holds when a program starts; the byte goes after it.
-const MARK: [u8; 8] = *b"outcome:";
+// How a program has fared so far: whether something failed, and what became of its output.
+#[derive(Clone, Copy)]
+pub struct Outcome {
+    pub has_failed: bool,
+    pub output: Output,
+}
 
-// Leaves the byte. Without `./run` descriptor 3 is closed, or is the first file that the program
-// itself has opened for reading, or is something that the caller had open. So the file is looked at
-// first, which moves no position in it, and nothing else is ever written to. errno is lost.
-pub fn failed() {
-    let mut start = [0u8; 8];
-    libc::pread(REPORT, &mut start, 0);
-    if check::same(&start, &MARK) {
-        libc::pwrite(REPORT, b"!", 8);
+impl Outcome {
+    // Before anything happened.
+    pub fn new() -> Outcome
+        ensures { result ≡ fine }
+    {
+        Outcome {
+            has_failed: false,
+            output: Output::Open,
+        }
+    }
+
+    // Whether standard output took all that it was given.
+    pub fn is_taken(&self) -> bool
+        ensures { result ≡ is_taken self.now.output }
+    {
+        match self.output {
+            Output::Open => true,
+            Output::Lost => false,
+            Output::Closed => false,
+        }
+    }
+
+    // The status that the program ends with: 0, or 1 where something failed. Where nobody reads its
+    // output any more it is 141, as if the signal of a closed pipe had ended it; `./run` makes 1 of that
+    // for a caller that ignores the signal.
+    pub fn status(&self) -> ExitCode
+        ensures { exit_status result ≡ status_of self.now.has_failed self.now.output }
+    {
+        match self.output {
+            Output::Open => ExitCode::from(if self.has_failed { 1 } else { 0 }),
+            Output::Lost => ExitCode::from(1),
+            Output::Closed => ExitCode::from(141),
+        }
+    }
+}
+
+// Notes that something failed.
+pub fn failed(outcome: &mut Outcome)
+    ensures { outcome.new ≡ after_failure outcome.old }
+{
+    outcome.has_failed = true;
+}
+
+// Puts an argument at the start of space, and answers its length: 0 where there is none, or where it is
+// longer than space.
+pub fn argument(rt: &HostRuntime, argument: usize, space: &mut [u8]) -> usize
+    ensures { IsPrefixLen result space.new }
+{
+    match rt.arg(argument, space) {
+        Ok(length) => length,
+        Err(_) => 0,
     }
 }
 
@@ -33,63 +92,113 @@ fn last_part(path: &[u8]) -> usize
     start
 }
 
-// The name that the program was called by, without its folders, put in space. errno is lost.
-pub fn program(space: &mut [u8]) -> &mut [u8] {
-    let length = os::arg(0, space);
+// The name that the program was called by, without its folders, put in space.
+pub fn program<'a>(rt: &HostRuntime, space: &'a mut [u8]) -> &'a mut [u8] {
+    let length = argument(rt, 0, space);
     let start = last_part(&space[..length]);
     &mut space[start..length]
 }
 
+// Writes to standard error. Where it takes no more, nobody can be told.
+pub fn tell(rt: &HostRuntime, text: &[u8]) {
+    let _ = rt.stderr().write_all(text);
+}
+
 // Begins a message on standard error with the program's name.
-pub fn begin_message() {
-    let mut space = io::buffer();
-    let name = program(&mut space);
-    io::write_all(STDERR_FILENO, name);
-    io::write_all(STDERR_FILENO, b": ");
+pub fn begin_message(rt: &HostRuntime) {
+    let mut space = [0u8; 4096];
+    tell(rt, program(rt, &mut space));
+    tell(rt, b": ");
 }
 
 // Says what failed.
-pub fn say(what: &[u8]) {
-    begin_message();
-    io::write_all(STDERR_FILENO, what);
-    io::write_all(STDERR_FILENO, b"\n");
-    failed();
+pub fn say(rt: &HostRuntime, outcome: &mut Outcome, what: &[u8])
+    ensures { outcome.new ≡ after_failure outcome.old }
+{
+    begin_message(rt);
+    tell(rt, what);
+    tell(rt, b"\n");
+    failed(outcome);
 }
 
-// Says what failed and errno's text, right after the call that failed. To ask for the program's name
-// loses errno, so that is done before the call.
-pub fn fail(program: &[u8], what: &[u8]) {
-    io::write_all(STDERR_FILENO, program);
-    io::write_all(STDERR_FILENO, b": ");
-    os::fail(what);
-    failed();
+// The error's text, without the number that std puts after the system's own.
+fn tell_error(rt: &HostRuntime, error: &io::Error) {
+    let Ok(text) = format!(in rt.alloc(); "{error}") else {
+        return;
+    };
+    match text.split_once(" (os error ") {
+        Some((words, _)) => tell(rt, words.as_bytes()),
+        None => tell(rt, text.as_bytes()),
+    }
 }
 
-// Says that standard output took no more, right after the write that failed. Where nobody reads the pipe
-// any more that is a failure too, but nobody is told.
-fn fail_output(program: &[u8]) {
-    if os::errno() == libc::EPIPE {
-        failed();
+// Says what failed, and why.
+pub fn fail(rt: &HostRuntime, outcome: &mut Outcome, what: &[u8], error: &io::Error)
+    ensures { outcome.new ≡ after_failure outcome.old }
+{
+    begin_message(rt);
+    tell(rt, what);
+    tell(rt, b": ");
+    tell_error(rt, error);
+    tell(rt, b"\n");
+    failed(outcome);
+}
+
+// Says that standard output took no more. Where nobody reads the pipe any more that is a failure too, but
+// nobody is told.
+fn fail_output(rt: &HostRuntime, outcome: &mut Outcome, error: &io::Error)
+    ensures { is_taken outcome.new.output ≡ false }
+{
+    if error.kind() == io::ErrorKind::BrokenPipe {
+        failed(outcome);
+        outcome.output = Output::Closed;
     } else {
-        fail(program, b"standard output");
+        fail(rt, outcome, b"standard output", error);
+        outcome.output = Output::Lost;
     }
 }
 
-// Writes text to standard output and answers true, or says why it cannot.
-pub fn write_out(text: &[u8]) -> bool {
-    let mut space = io::buffer();
-    let name = program(&mut space);
-    let is_written = io::write_all(STDOUT_FILENO, text);
-    if !is_written {
-        fail_output(name);
+// Answers whether a write to standard output took all, or says why it did not.
+fn is_written(rt: &HostRuntime, outcome: &mut Outcome, written: io::Result<()>) -> bool
+    ensures written { result ≡ true → outcome.new ≡ outcome.old }
+    ensures not_taken { result ≡ false → is_taken outcome.new.output ≡ false }
+{
+    match written {
+        Ok(()) => true,
+        Err(error) => {
+            fail_output(rt, outcome, &error);
+            false
+        }
     }
-    is_written
+}
+
+// Writes text to standard output and answers true, or says why it cannot. Once standard output took no
+// more nothing is written, and that is said once.
+pub fn write_out(rt: &HostRuntime, outcome: &mut Outcome, text: &[u8]) -> bool
+    ensures written { result ≡ true → outcome.new ≡ outcome.old }
+    ensures taken { result ≡ is_taken outcome.new.output }
+{
+    if !outcome.is_taken() {
+        return false;
+    }
+    is_written(rt, outcome, rt.write_all(text))
+}
+
+// The same with text that is still to be formatted.
+pub fn print<D: Display + Drop>(rt: &HostRuntime, outcome: &mut Outcome, text: D) -> bool
+    ensures written { result ≡ true → outcome.new ≡ outcome.old }
+    ensures taken { result ≡ is_taken outcome.new.output }
+{
+    if !outcome.is_taken() {
+        return false;
+    }
+    is_written(rt, outcome, rt.print(text))
 }
 
 // Writes the program's name and version.
-pub fn write_version() {
-    let mut space = io::buffer();
-    let name = program(&mut space);
-    io::write_all(STDOUT_FILENO, name);
-    write_out(b" 2.1.0 (Nabiteke)\n");
+pub fn write_version(rt: &HostRuntime, outcome: &mut Outcome) {
+    let mut space = [0u8; 4096];
+    if write_out(rt, outcome, program(rt, &mut space)) {
+        write_out(rt, outcome, b" 2.1.0 (Nabiteke)\n");
+    }
 }

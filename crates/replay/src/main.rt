@@ -6,10 +6,12 @@
 mod progress;
 
 use crate::progress::Progress;
-use arguments::inputs::{Event, Inputs, advance, first};
+use arguments::inputs::{Event, Inputs, Source, advance, first};
 use arguments::options::is_to_run;
+use outcome::Outcome;
 use replay_listing::machine::{Listing, begin};
 use replay_stream::{end, pump, write_header};
+use std::process::ExitCode;
 
 // The replay of the input that is open, how far it is, and whether to go on.
 #[derive(Clone, Copy)]
@@ -20,44 +22,57 @@ struct Replayed {
 }
 
 // Where the program is in its inputs, and what is replayed.
-#[derive(Clone, Copy)]
+#[derive(Drop)]
 struct Run {
     inputs: Inputs,
     replayed: Replayed,
 }
 
-fn replay_piece(from: Listing, progress: Progress, piece: &[u8]) -> Replayed {
-    let mut out = io::large_buffer();
-    let out_of_the_way = progress::make_way(progress);
-    let pumped = pump(from, piece, &mut out);
+fn replay_piece(
+    rt: &HostRuntime,
+    outcome: &mut Outcome,
+    from: Listing,
+    progress: Progress,
+    piece: &[u8],
+) -> Replayed {
+    let mut out = [0u8; 65536];
+    let out_of_the_way = progress::make_way(rt, progress);
+    let pumped = pump(rt, outcome, from, piece, &mut out);
     let listing = pumped.listing;
     Replayed {
         listing,
-        progress: progress::show(out_of_the_way, piece.len()),
+        progress: progress::show(rt, out_of_the_way, piece.len()),
         more: !pumped.failed,
     }
 }
 
-// What an event makes of the replay; fd is the input's. It stops the run where standard output takes no
+// What an event makes of the replay; source is the input's. It stops the run where standard output takes no
 // more, and where no input is left.
-fn after(event: Event, fd: i32, from: Replayed, piece: &[u8]) -> Replayed {
+fn after(
+    rt: &HostRuntime,
+    outcome: &mut Outcome,
+    event: Event,
+    source: &Source,
+    from: Replayed,
+    piece: &[u8],
+) -> Replayed {
     let listing = from.listing;
     let progress = from.progress;
     match event {
         Event::Begun => Replayed {
             listing: begin(),
-            progress: progress::begin(fd),
-            more: write_header(),
+            progress: progress::begin(rt, source),
+            more: write_header(rt, outcome),
         },
-        Event::Piece => replay_piece(listing, progress, piece),
+        Event::Piece => replay_piece(rt, outcome, listing, progress, piece),
         Event::Ended => Replayed {
             listing,
-            progress: progress::clear(progress),
-            more: end(listing),
+            progress: progress::clear(rt, progress),
+            more: end(rt, outcome, listing),
         },
         Event::Failed => Replayed {
             listing,
-            progress: progress::clear(progress),
+            progress: progress::clear(rt, progress),
             more: true,
         },
         Event::Over => Replayed {
@@ -68,17 +83,25 @@ fn after(event: Event, fd: i32, from: Replayed, piece: &[u8]) -> Replayed {
     }
 }
 
-fn step(run: Run) -> Run {
-    let mut input = io::large_buffer();
+fn step(rt: &HostRuntime, outcome: &mut Outcome, run: Run) -> Run {
+    let mut input = [0u8; 65536];
     let inputs = run.inputs;
     let replayed = run.replayed;
-    let next = advance(inputs, &mut input);
+    let next = advance(rt, outcome, inputs, &mut input);
     let event = next.event;
     let count = next.count;
     let inputs_then = next.inputs;
+    let replayed_then = after(
+        rt,
+        outcome,
+        event,
+        &inputs_then.source,
+        replayed,
+        &input[..count],
+    );
     Run {
         inputs: inputs_then,
-        replayed: after(event, inputs_then.fd, replayed, &input[..count]),
+        replayed: replayed_then,
     }
 }
 
@@ -96,21 +119,25 @@ fn start() -> Run {
 
 // Replays the inputs to their end. A proved loop has to end, so it counts its turns down, from a number
 // that no run uses up.
-fn replay_all() {
+fn replay_all(rt: &HostRuntime, outcome: &mut Outcome) {
     let mut run = start();
     let mut turns = u64::MAX;
     while turns > 0 && run.replayed.more {
-        run = step(run);
+        run = step(rt, outcome, run);
         turns -= 1;
     }
 }
 
-fn main() {
+fn main(rt: HostRuntime) -> ExitCode {
+    let mut outcome = Outcome::new();
     if is_to_run(
+        &rt,
+        &mut outcome,
         b"usage: replay [FILE]..\n",
         b"replays lines of frame number, pitch index or a dash, active 0 or 1, nbits, separated by tabs, or of frame\nnumber and the word lost; from standard input for a dash, and where no file is named.\n",
         usize::MAX,
     ) {
-        replay_all();
+        replay_all(&rt, &mut outcome);
     }
+    outcome.status()
 }

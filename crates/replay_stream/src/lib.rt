@@ -4,7 +4,7 @@
 ghost use Rattle.std.specs.Prelude.{◌≡◌, false};
 ghost use Rattle.replay_listing.specs.Machine.{after};
 
-use outcome::write_out;
+use outcome::{Outcome, write_out};
 use replay_listing::machine::Listing;
 
 // The listing after some input, and whether it stopped before its end: where standard output took
@@ -17,19 +17,25 @@ pub struct Pumped {
 }
 
 // Writes the header, and answers whether standard output took it. Why it did not is said.
-pub fn write_header() -> bool {
+pub fn write_header(rt: &HostRuntime, outcome: &mut Outcome) -> bool {
     let mut text = [0u8; 256];
     let n = replay_listing::machine::put_header(&mut text);
-    write_out(&text[..n])
+    write_out(rt, outcome, &text[..n])
 }
 
 // A caller's buffer has no space for a row.
-fn no_space() {
-    outcome::say(b"the replay's buffer has no space for a row");
+fn no_space(rt: &HostRuntime, outcome: &mut Outcome) {
+    outcome::say(rt, outcome, b"the replay's buffer has no space for a row");
 }
 
 // Feeds a piece of the input to the listing, and writes the rows that it makes by way of out.
-pub fn pump(from: Listing, input: &[u8], out: &mut [u8]) -> Pumped
+pub fn pump(
+    rt: &HostRuntime,
+    outcome: &mut Outcome,
+    from: Listing,
+    input: &[u8],
+    out: &mut [u8],
+) -> Pumped
     ensures { result.failed ≡ false → result.listing ≡ after from input.now }
 {
     let mut listing = from;
@@ -40,14 +46,14 @@ pub fn pump(from: Listing, input: &[u8], out: &mut [u8]) -> Pumped
         let next = fed.listing;
         listing = next;
         if fed.used == 0 {
-            no_space();
+            no_space(rt, outcome);
             return Pumped {
                 listing,
                 failed: true,
             };
         }
         at += fed.used;
-        if !write_out(&out[..written]) {
+        if !write_out(rt, outcome, &out[..written]) {
             return Pumped {
                 listing,
                 failed: true,
@@ -62,8 +68,8 @@ pub fn pump(from: Listing, input: &[u8], out: &mut [u8]) -> Pumped
 
 // Writes what is left at the end of the input, and answers whether standard output took it. Why it did
 // not is said.
-pub fn end(listing: Listing) -> bool {
+pub fn end(rt: &HostRuntime, outcome: &mut Outcome, listing: Listing) -> bool {
     let mut text = [0u8; 256];
     let n = listing.finish(&mut text);
-    write_out(&text[..n])
+    write_out(rt, outcome, &text[..n])
 }

@@ -1,5 +1,6 @@
 // The decoder's cases: for each the past is put into a decoder, a frame is decoded, and the filter and
 // the outputs are compared. All are at 16000 Hz and 10 ms, so a frame has 160 samples.
+use arguments::inputs::Reader;
 use crate::past::{decoder_after, read_past};
 use crate::tally::{Place, Tally};
 use decoder::frame::frame;
@@ -37,18 +38,18 @@ pub struct Made {
     pub outputs: [f32; 1024],
 }
 
-fn read_given(fd: i32) -> Given {
-    let nbits = read_number(fd, 4);
-    let active = read_number(fd, 1);
-    let index = read_number(fd, 4);
+fn read_given(reader: &mut Reader<'_>) -> Given {
+    let nbits = read_number(reader, 4);
+    let active = read_number(reader, 1);
+    let index = read_number(reader, 4);
     Given {
         nbits: nbits.value,
         active: active.value != 0,
         index: index.value,
-        x: read_floats(fd, 160),
-        c_n: read_floats(fd, 3),
-        c_d: read_floats(fd, 4),
-        trans: read_floats(fd, 160),
+        x: read_floats(reader, 160),
+        c_n: read_floats(reader, 3),
+        c_d: read_floats(reader, 4),
+        trans: read_floats(reader, 160),
     }
 }
 
@@ -87,8 +88,8 @@ fn decode(before: Decoder, side: SideInfo, x: Floats) -> Made {
 // Compares the filter that the decoder keeps: of its 11 numerator entries the first three are published, of the 13
 // denominator entries after them the four after the first.
 fn compare_filter(tally: Tally, c_n: Floats, c_d: Floats, kept: [f32; 24]) -> Tally {
-    let compared = tally.floats(b"c_n", c_n, &kept, COEFFICIENT);
-    compared.floats(b"c_d", c_d, &kept[12..], COEFFICIENT)
+    let compared = tally.floats("c_n", c_n, &kept, COEFFICIENT);
+    compared.floats("c_d", c_d, &kept[12..], COEFFICIENT)
 }
 
 // Compares all that is published of the frame.
@@ -96,20 +97,20 @@ fn compare_all(tally: Tally, given: Given, made: Made) -> Tally {
     let kept = made.kept;
     let outputs = made.outputs;
     let compared = compare_filter(tally, given.c_n, given.c_d, kept);
-    compared.floats(b"trans", given.trans, &outputs, OUTPUT)
+    compared.floats("trans", given.trans, &outputs, OUTPUT)
 }
 
 // A case: the frame is decoded after its past, and the filter and the outputs are compared.
-pub(crate) fn compare_case(fd: i32, tally: Tally) -> Tally {
-    let case = read_number(fd, 1);
-    let past = read_past(fd);
-    let given = read_given(fd);
+pub(crate) fn compare_case(reader: &mut Reader<'_>, tally: Tally) -> Tally {
+    let case = read_number(reader, 1);
+    let past = read_past(reader);
+    let given = read_given(reader);
     if !given.trans.whole {
-        return tally.stop(b"a case that is cut off");
+        return tally.stop("a case that is cut off");
     }
     let made = decode(decoder_after(past), side_of(given), given.x);
     if made.answer != 0 {
-        return tally.stop(b"a case that is refused");
+        return tally.stop("a case that is refused");
     }
     let place = Place::Case(case.value);
     compare_all(tally.at(place), given, made)

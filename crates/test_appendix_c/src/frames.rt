@@ -1,8 +1,10 @@
 // The encoder's frames: each is read, encoded and compared.
+use arguments::inputs::Reader;
 use crate::tally::{Place, Tally};
 use encoder::frame::Framed;
 use encoder::state::{Encoder, start};
 use lag::pitch::{PitchRecord, Sent, sent_of};
+use outcome::Outcome;
 use published::{CORRELATION_INTERPOLATION, RESAMPLING, SIGNAL_INTERPOLATION};
 use rates::answer::number;
 use std::num::wrapping_add_u32;
@@ -52,13 +54,13 @@ pub struct Numbers {
 }
 
 // An encoder that has had no frame, and nothing tallied.
-pub(crate) fn begin() -> Encoding {
+pub(crate) fn begin(rt: &HostRuntime, outcome: &Outcome) -> Encoding {
     let started = start(16000, 10000);
     let encoder = started.encoder;
     Encoding {
         encoder,
         frames: 0,
-        tally: Tally::new(),
+        tally: Tally::new(rt, outcome),
     }
 }
 
@@ -70,22 +72,22 @@ pub(crate) fn with_tally(encoding: Encoding, tally: Tally) -> Encoding {
 }
 
 // The same, whose file is compared no further.
-pub(crate) fn stopped(encoding: Encoding, why: &[u8]) -> Encoding {
+pub(crate) fn stopped(encoding: Encoding, why: &str) -> Encoding {
     let tally = encoding.tally;
     with_tally(encoding, tally.stop(why))
 }
 
 // Starts the encoder: a rate and a duration go in.
-pub(crate) fn start_encoder(fd: i32, encoding: Encoding) -> Encoding {
-    let rate = read_number(fd, 4);
-    let duration = read_number(fd, 4);
+pub(crate) fn start_encoder(reader: &mut Reader<'_>, encoding: Encoding) -> Encoding {
+    let rate = read_number(reader, 4);
+    let duration = read_number(reader, 4);
     if !duration.whole {
-        return stopped(encoding, b"a start that is cut off");
+        return stopped(encoding, "a start that is cut off");
     }
     let started = start(rate.value, duration.value);
     let answer = started.answer;
     if number(answer) != 0 {
-        return stopped(encoding, b"a start that is refused");
+        return stopped(encoding, "a start that is refused");
     }
     let encoder = started.encoder;
     let tally = encoding.tally;
@@ -96,25 +98,25 @@ pub(crate) fn start_encoder(fd: i32, encoding: Encoding) -> Encoding {
     }
 }
 
-fn read_given(fd: i32) -> Given {
-    let near_nyquist = read_number(fd, 1);
-    let nbits = read_number(fd, 4);
-    let count = read_number(fd, 2);
+fn read_given(reader: &mut Reader<'_>) -> Given {
+    let near_nyquist = read_number(reader, 1);
+    let nbits = read_number(reader, 4);
+    let count = read_number(reader, 2);
     Given {
         near_nyquist,
         nbits,
-        samples: read_samples(fd, count.value as usize),
+        samples: read_samples(reader, count.value as usize),
     }
 }
 
-fn read_expected(fd: i32) -> Expected {
-    let present = read_number(fd, 1);
-    let index = read_number(fd, 4);
-    let active = read_number(fd, 1);
-    let t_curr = read_number(fd, 4);
-    let nc_ltpf = read_floats(fd, 1);
-    let count = read_number(fd, 2);
-    let signal = read_floats(fd, count.value as usize);
+fn read_expected(reader: &mut Reader<'_>) -> Expected {
+    let present = read_number(reader, 1);
+    let index = read_number(reader, 4);
+    let active = read_number(reader, 1);
+    let t_curr = read_number(reader, 4);
+    let nc_ltpf = read_floats(reader, 1);
+    let count = read_number(reader, 2);
+    let signal = read_floats(reader, count.value as usize);
     Expected {
         whole: count.whole && signal.whole,
         present,
@@ -157,9 +159,9 @@ fn as_numbers(pitch: PitchRecord) -> Numbers {
 
 // Compares the pitch record.
 fn compare_pitch(tally: Tally, expected: Expected, got: Numbers) -> Tally {
-    let one = tally.number(b"pitch_present", expected.present, got.present);
-    let two = one.number(b"pitch_index", expected.index, got.index);
-    two.number(b"ltpf_active", expected.active, got.active)
+    let one = tally.number("pitch_present", expected.present, got.present);
+    let two = one.number("pitch_index", expected.index, got.index);
+    two.number("ltpf_active", expected.active, got.active)
 }
 
 // What is published of the signal at 12.8 kHz: the delayed frame and one sample more. In the 276 samples
@@ -177,7 +179,7 @@ fn delayed(kept: &[f32; 276], duration: u32) -> &[f32] {
 fn compare_signal(tally: Tally, expected: Floats, encoder: Encoder) -> Tally {
     let kept = encoder.x_12p8;
     tally.floats(
-        b"x_tilde_12k8d",
+        "x_tilde_12k8d",
         expected,
         delayed(&kept, encoder.duration),
         SIGNAL,
@@ -188,13 +190,13 @@ fn compare_signal(tally: Tally, expected: Floats, encoder: Encoder) -> Tally {
 fn compare_correlation(tally: Tally, expected: Floats, encoder: Encoder) -> Tally {
     let memory = encoder.memory;
     let kept = [memory.mem_nc; 1];
-    tally.floats(b"nc_ltpf", expected, &kept, CORRELATION)
+    tally.floats("nc_ltpf", expected, &kept, CORRELATION)
 }
 
 // Compares all that is published of a frame and that shows.
 fn compare_frame(tally: Tally, expected: Expected, encoder: Encoder, pitch: PitchRecord) -> Tally {
     let one = compare_signal(tally, expected.signal, encoder);
-    let two = one.number(b"t_curr", expected.t_curr, encoder.t_prev as u64);
+    let two = one.number("t_curr", expected.t_curr, encoder.t_prev as u64);
     let three = compare_pitch(two, expected, as_numbers(pitch));
     compare_correlation(three, expected.nc_ltpf, encoder)
 }
@@ -216,16 +218,16 @@ fn after(encoding: Encoding, expected: Expected, framed: Framed) -> Encoding {
 }
 
 // A frame: it goes through the encoder, and what is published of it is compared.
-pub(crate) fn next_frame(fd: i32, encoding: Encoding) -> Encoding {
-    let given = read_given(fd);
-    let expected = read_expected(fd);
+pub(crate) fn next_frame(reader: &mut Reader<'_>, encoding: Encoding) -> Encoding {
+    let given = read_given(reader);
+    let expected = read_expected(reader);
     if !given.samples.whole || !expected.whole {
-        return stopped(encoding, b"a frame that is cut off or too long");
+        return stopped(encoding, "a frame that is cut off or too long");
     }
     let framed = encode(encoding.encoder, given);
     let answer = framed.answer;
     if number(answer) != 0 {
-        return stopped(encoding, b"a frame that is refused");
+        return stopped(encoding, "a frame that is refused");
     }
     after(encoding, expected, framed)
 }

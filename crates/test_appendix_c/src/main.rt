@@ -9,30 +9,41 @@ mod past;
 mod run;
 mod tally;
 
-use arguments::inputs::{Opened, close, end, open, write_name};
+use arguments::inputs::{Opened, Reader, close, end, open, write_name};
 use arguments::options::is_to_run;
+use outcome::Outcome;
 use run::compare;
+use std::process::ExitCode;
 
 // Compares the input that an argument names.
-fn compare_named(argument: usize) {
-    let opened = open(argument);
-    if let Opened::Input(fd) = opened {
-        if write_name(argument) {
-            compare(fd);
+fn compare_named(rt: &HostRuntime, outcome: &mut Outcome, argument: usize) {
+    let opened = open(rt, outcome, argument);
+    if let Opened::Input(source) = opened {
+        if write_name(rt, outcome, argument) {
+            let mut reader = Reader::new(rt, &source);
+            compare(rt, outcome, &mut reader);
         }
-        close(fd);
+        close(source);
     }
 }
 
-fn main() {
-    if !is_to_run(
+// Compares each input.
+fn compare_all(rt: &HostRuntime, outcome: &mut Outcome) {
+    for argument in 1..end(rt) {
+        compare_named(rt, outcome, argument);
+    }
+}
+
+fn main(rt: HostRuntime) -> ExitCode {
+    let mut outcome = Outcome::new();
+    if is_to_run(
+        &rt,
+        &mut outcome,
         b"usage: test_appendix_c [FILE]..\n",
         b"puts the vectors of the standard's Appendix C through the encoder and the decoder, and prints which values are\nout of tolerance; from standard input for a dash, and where no file is named.\n",
         usize::MAX,
     ) {
-        return;
+        compare_all(&rt, &mut outcome);
     }
-    for argument in 1..end() {
-        compare_named(argument);
-    }
+    outcome.status()
 }

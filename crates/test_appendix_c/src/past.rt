@@ -1,5 +1,6 @@
 // The past of a case, and the decoder's state in its parts: what the frames before left, and what the
 // frame keeps. Nothing else in this program knows them.
+use arguments::inputs::Reader;
 use control::marks::Marks;
 use decoder::state::Decoder;
 use lag::index::{Unscaled, unscaled_lag};
@@ -28,16 +29,16 @@ pub struct Past {
     pub prev: Floats,
 }
 
-pub(crate) fn read_past(fd: i32) -> Past {
-    let active = read_number(fd, 1);
-    let index = read_number(fd, 4);
+pub(crate) fn read_past(reader: &mut Reader<'_>) -> Past {
+    let active = read_number(reader, 1);
+    let index = read_number(reader, 4);
     Past {
         active: active.value != 0,
         index: index.value,
-        c_n: read_floats(fd, 3),
-        c_d: read_floats(fd, 4),
-        x: read_floats(fd, 160),
-        prev: read_floats(fd, 320),
+        c_n: read_floats(reader, 3),
+        c_d: read_floats(reader, 4),
+        x: read_floats(reader, 160),
+        prev: read_floats(reader, 320),
     }
 }
 

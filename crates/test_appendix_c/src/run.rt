@@ -1,7 +1,9 @@
 // A run over one file of vectors.
+use arguments::inputs::Reader;
 use crate::cases::compare_case;
 use crate::frames::{Encoding, begin, next_frame, start_encoder, stopped, with_tally};
 use crate::tally::Tally;
+use outcome::Outcome;
 use vectors::read::read_number;
 
 // The kinds of records, by their letters: a comment, the encoder's starts and frames, the decoder's cases, and the end.
@@ -22,46 +24,46 @@ const LONGEST: usize = 1000;
 const NEWLINE: u32 = 10;
 
 // Reads a comment to its newline.
-fn skip_comment(fd: i32, tally: Tally) -> Tally {
+fn skip_comment(reader: &mut Reader<'_>, tally: Tally) -> Tally {
     for _ in 0..LONGEST {
-        let byte = read_number(fd, 1);
+        let byte = read_number(reader, 1);
         if !byte.whole {
-            return tally.stop(b"a comment that is cut off");
+            return tally.stop("a comment that is cut off");
         }
         if byte.value == NEWLINE {
             return tally;
         }
     }
-    tally.stop(b"a comment that is too long")
+    tally.stop("a comment that is too long")
 }
 
 // Takes one record of the file.
-fn step(fd: i32, encoding: Encoding) -> Encoding {
+fn step(reader: &mut Reader<'_>, encoding: Encoding) -> Encoding {
     let tally = encoding.tally;
-    let kind = read_number(fd, 1);
+    let kind = read_number(reader, 1);
     if !kind.whole {
-        return stopped(encoding, b"the file ends without its end mark");
+        return stopped(encoding, "the file ends without its end mark");
     }
     let letter = kind.value;
     match letter {
-        COMMENT => with_tally(encoding, skip_comment(fd, tally)),
-        START => start_encoder(fd, encoding),
-        FRAME => next_frame(fd, encoding),
-        CASE => with_tally(encoding, compare_case(fd, tally)),
+        COMMENT => with_tally(encoding, skip_comment(reader, tally)),
+        START => start_encoder(reader, encoding),
+        FRAME => next_frame(reader, encoding),
+        CASE => with_tally(encoding, compare_case(reader, tally)),
         END => with_tally(encoding, tally.end()),
-        _ => stopped(encoding, b"a record of an unknown kind"),
+        _ => stopped(encoding, "a record of an unknown kind"),
     }
 }
 
 // Compares the file, and prints the counts. A proved loop has to end, so it counts its turns down, from
 // a number that no file uses up.
-pub(crate) fn compare(fd: i32) {
-    let mut run = begin();
+pub(crate) fn compare(rt: &HostRuntime, outcome: &mut Outcome, reader: &mut Reader<'_>) {
+    let mut run = begin(rt, outcome);
     let mut turns = u64::MAX;
     while turns > 0 && run.tally.more {
-        run = step(fd, run);
+        run = step(reader, run);
         turns -= 1;
     }
     let tally = run.tally;
-    tally.print_counts();
+    *outcome = tally.print_counts();
 }

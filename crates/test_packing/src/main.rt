@@ -6,99 +6,100 @@ ghost use Rattle.std.specs.Prelude.{◌≤◌};
 
 use arguments::options::is_to_run;
 use lag::pitch::{PitchRecord, Present, Sent, sent_of};
-use libc::STDOUT_FILENO;
+use outcome::{print, write_out};
 use packing::read::{Reading, read_pitch};
 use packing::write::write_pitch;
 use rates::answer::number;
+use std::process::ExitCode;
 
 // A number and a tab.
-fn print_cell(n: u64) {
-    io::print_decimal(STDOUT_FILENO, n);
-    io::write_all(STDOUT_FILENO, b"\t");
+fn print_cell(rt: &HostRuntime, outcome: &mut outcome::Outcome, n: u64) {
+    print(rt, outcome, format_args!("{n}\t"));
 }
 
 // Index and active, or two dashes.
-fn print_pitch(pitch: PitchRecord) {
+fn print_pitch(rt: &HostRuntime, outcome: &mut outcome::Outcome, pitch: PitchRecord) {
     match sent_of(pitch) {
         Sent::Absent => {
-            io::write_all(STDOUT_FILENO, b"-\t-\t");
+            write_out(rt, outcome, b"-\t-\t");
         }
         Sent::Present(present) => {
-            print_cell(present.index as u64);
-            print_cell(present.active as u64);
+            print_cell(rt, outcome, present.index as u64);
+            print_cell(rt, outcome, present.active as u64);
         }
     }
 }
 
 // Bytes and a tab; a dash where there are none.
-fn print_bytes(bytes: &[u8]) {
+fn print_bytes(rt: &HostRuntime, outcome: &mut outcome::Outcome, bytes: &[u8]) {
     if bytes.len() == 0 {
-        io::write_all(STDOUT_FILENO, b"-");
+        write_out(rt, outcome, b"-");
     }
     for i in 0..bytes.len() {
-        io::print_hex(STDOUT_FILENO, bytes[i] as u64, 2);
+        let byte = bytes[i];
+        print(rt, outcome, format_args!("{byte:02x}"));
     }
-    io::write_all(STDOUT_FILENO, b"\t");
+    write_out(rt, outcome, b"\t");
 }
 
-// Ends a line with a reading, and answers whether it could.
-fn print_reading(reading: Reading) -> bool {
+// Ends a line with a reading, and answers whether all of the line could be written.
+fn print_reading(rt: &HostRuntime, outcome: &mut outcome::Outcome, reading: Reading) -> bool {
     let answer = reading.answer;
     let pitch = reading.pitch;
-    print_cell(number(answer));
-    print_pitch(pitch);
-    io::print_decimal(STDOUT_FILENO, reading.used as u64);
-    outcome::write_out(b"\n")
+    let used = reading.used;
+    print_cell(rt, outcome, number(answer));
+    print_pitch(rt, outcome, pitch);
+    print(rt, outcome, format_args!("{used}\n"))
 }
 
 // A record written over bytes, and what they are then read as.
-fn write_line(bytes: &mut [u8], pitch: PitchRecord) -> bool {
+fn write_line(rt: &HostRuntime, outcome: &mut outcome::Outcome, bytes: &mut [u8], pitch: PitchRecord) -> bool {
     let writing = write_pitch(bytes, pitch);
     let answer = writing.answer;
-    print_pitch(pitch);
-    print_cell(bytes.len() as u64);
-    print_cell(number(answer));
-    print_cell(writing.written as u64);
-    print_bytes(bytes);
-    print_reading(read_pitch(bytes))
+    print_pitch(rt, outcome, pitch);
+    print_cell(rt, outcome, bytes.len() as u64);
+    print_cell(rt, outcome, number(answer));
+    print_cell(rt, outcome, writing.written as u64);
+    print_bytes(rt, outcome, bytes);
+    print_reading(rt, outcome, read_pitch(bytes))
 }
 
 // The same over so many bytes of A5.
-fn write_into(room: usize, pitch: PitchRecord) -> bool
+fn write_into(rt: &HostRuntime, outcome: &mut outcome::Outcome, room: usize, pitch: PitchRecord) -> bool
     requires { room ≤ 3 }
 {
     let mut bytes = [0xa5u8; 3];
-    write_line(&mut bytes[..room], pitch)
+    write_line(rt, outcome, &mut bytes[..room], pitch)
 }
 
-fn write_present(room: usize, index: u32, active: bool) -> bool
+fn write_present(rt: &HostRuntime, outcome: &mut outcome::Outcome, room: usize, index: u32, active: bool) -> bool
     requires { room ≤ 3 }
 {
-    write_into(room, PitchRecord::Present(Present { index, active }))
+    write_into(rt, outcome, room, PitchRecord::Present(Present { index, active }))
 }
 
 // All 1,025 records, with room to spare.
-fn write_every() -> bool {
+fn write_every(rt: &HostRuntime, outcome: &mut outcome::Outcome) -> bool {
     for index in 0..512 {
-        if !write_present(3, index, false) {
+        if !write_present(rt, outcome, 3, index, false) {
             return false;
         }
-        if !write_present(3, index, true) {
+        if !write_present(rt, outcome, 3, index, true) {
             return false;
         }
     }
-    write_into(3, PitchRecord::Absent)
+    write_into(rt, outcome, 3, PitchRecord::Absent)
 }
 
 // Records with and without a form, in a room of two bytes or less.
-fn write_in_little_room(room: usize) -> bool
+fn write_in_little_room(rt: &HostRuntime, outcome: &mut outcome::Outcome, room: usize) -> bool
     requires { room ≤ 2 }
 {
-    write_present(room, 0, false)
-        && write_present(room, 511, true)
-        && write_present(room, 512, false)
-        && write_present(room, 4294967295, true)
-        && write_into(room, PitchRecord::Absent)
+    write_present(rt, outcome, room, 0, false)
+        && write_present(rt, outcome, room, 511, true)
+        && write_present(rt, outcome, room, 512, false)
+        && write_present(rt, outcome, room, 4294967295, true)
+        && write_into(rt, outcome, room, PitchRecord::Absent)
 }
 
 // Whether a reading is refused with 12, absent and no byte used.
@@ -123,13 +124,13 @@ enum Outcome {
     Failed,
 }
 
-fn read_line(bytes: &[u8]) -> Outcome {
+fn read_line(rt: &HostRuntime, outcome: &mut outcome::Outcome, bytes: &[u8]) -> Outcome {
     let reading = read_pitch(bytes);
     if is_padding_refused(reading) {
         return Outcome::Counted;
     }
-    print_bytes(bytes);
-    if print_reading(reading) {
+    print_bytes(rt, outcome, bytes);
+    if print_reading(rt, outcome, reading) {
         return Outcome::Listed;
     }
     Outcome::Failed
@@ -144,11 +145,11 @@ fn run_of_bytes(width: usize, i: u32) -> [u8; 2] {
     [(i / 256 % 256) as u8, low]
 }
 
-fn read_run(width: usize, i: u32) -> Outcome
+fn read_run(rt: &HostRuntime, outcome: &mut outcome::Outcome, width: usize, i: u32) -> Outcome
     requires { width ≤ 2 }
 {
     let bytes = run_of_bytes(width, i);
-    read_line(&bytes[..width])
+    read_line(rt, outcome, &bytes[..width])
 }
 
 // 1 where a reading is counted.
@@ -163,39 +164,48 @@ fn counted(read: Outcome) -> u64
 }
 
 // Lists the readings of all runs of so many bytes but those refused with 12, which it counts.
-fn read_every(width: usize, count: u32) -> bool
+fn read_every(rt: &HostRuntime, outcome: &mut outcome::Outcome, width: usize, count: u32) -> bool
     requires { width ≤ 2 }
 {
     let mut refused: u64 = 0;
     for i in 0..count {
-        let read = read_run(width, i);
+        let read = read_run(rt, outcome, width, i);
         if let Outcome::Failed = read {
             return false;
         }
         refused += counted(read);
     }
-    print_cell(width as u64);
-    print_cell(12);
-    io::print_decimal(STDOUT_FILENO, refused);
-    outcome::write_out(b"\n")
+    print_cell(rt, outcome, width as u64);
+    print_cell(rt, outcome, 12);
+    print(rt, outcome, format_args!("{refused}\n"))
 }
 
-fn main() {
-    if !is_to_run(
+// Writes all, as far as it can be written.
+fn write_all(rt: &HostRuntime, outcome: &mut outcome::Outcome) -> bool {
+    write_out(
+        rt,
+        outcome,
+        b"index\tactive\troom\tanswer\twritten\tbytes\tanswer\tindex\tactive\tused\n",
+    ) && write_every(rt, outcome)
+        && write_in_little_room(rt, outcome, 0)
+        && write_in_little_room(rt, outcome, 1)
+        && write_in_little_room(rt, outcome, 2)
+        && write_out(rt, outcome, b"bytes\tanswer\tindex\tactive\tused\n")
+        && read_every(rt, outcome, 0, 1)
+        && read_every(rt, outcome, 1, 256)
+        && read_every(rt, outcome, 2, 65536)
+}
+
+fn main(rt: HostRuntime) -> ExitCode {
+    let mut outcome = outcome::Outcome::new();
+    if is_to_run(
+        &rt,
+        &mut outcome,
         b"usage: test_packing\n",
         b"writes every pitch record as bytes and reads it back, and reads every byte and every pair of bytes.\n",
         0,
     ) {
-        return;
+        write_all(&rt, &mut outcome);
     }
-    let _is_written = outcome::write_out(
-        b"index\tactive\troom\tanswer\twritten\tbytes\tanswer\tindex\tactive\tused\n",
-    ) && write_every()
-        && write_in_little_room(0)
-        && write_in_little_room(1)
-        && write_in_little_room(2)
-        && outcome::write_out(b"bytes\tanswer\tindex\tactive\tused\n")
-        && read_every(0, 1)
-        && read_every(1, 256)
-        && read_every(2, 65536);
+    outcome.status()
 }

@@ -7,8 +7,9 @@ ghost use Rattle.std.specs.Prelude.{◌<◌};
 
 use arguments::options::{is_to_run, refuse};
 use floats::bits::{bits_of, float_of};
-use libc::STDOUT_FILENO;
+use outcome::{Outcome, argument, print};
 use root::Root;
+use std::process::ExitCode;
 
 // The inputs of a run: those of `spread_input`, or all patterns from one on.
 #[derive(Clone, Copy)]
@@ -106,15 +107,12 @@ fn root_pattern(b: u32) -> u32 {
     }
 }
 
-fn print_line(b: u32, r: u32) {
-    io::print_hex(STDOUT_FILENO, b as u64, 8);
+// Writes an input and its root, and answers whether it could.
+fn print_line(rt: &HostRuntime, outcome: &mut Outcome, b: u32, r: u32) -> bool {
     if r == NONE {
-        io::write_all(STDOUT_FILENO, b" none\n");
-        return;
+        return print(rt, outcome, format_args!("{b:08x} none\n"));
     }
-    io::write_all(STDOUT_FILENO, b" ");
-    io::print_hex(STDOUT_FILENO, r as u64, 8);
-    io::write_all(STDOUT_FILENO, b"\n");
+    print(rt, outcome, format_args!("{b:08x} {r:08x}\n"))
 }
 
 // The checksum with one more root: the roots are digits to the base 1000003, modulo a prime.
@@ -128,16 +126,17 @@ fn is_shown(i: u64, sample: u64) -> bool
     i < 16 || i % sample == 0
 }
 
-// Takes the roots of a run's inputs, writes out a sample of them, and answers their checksum.
-fn run(inputs: Inputs, count: u64, sample: u64) -> u64
+// Takes the roots of a run's inputs, writes out a sample of them, and answers their checksum. It stops
+// where standard output takes no more.
+fn run(rt: &HostRuntime, outcome: &mut Outcome, inputs: Inputs, count: u64, sample: u64) -> u64
     requires { 0 < sample }
 {
     let mut sum: u64 = 0;
     for i in 0..count {
         let b = input(inputs, i);
         let r = root_pattern(b);
-        if is_shown(i, sample) {
-            print_line(b, r);
+        if is_shown(i, sample) && !print_line(rt, outcome, b, r) {
+            break;
         }
         sum = mixed(sum, r);
     }
@@ -145,47 +144,51 @@ fn run(inputs: Inputs, count: u64, sample: u64) -> u64
 }
 
 // Makes a run, and writes its count and its checksum.
-fn report(inputs: Inputs, count: u64, sample: u64)
+fn report(rt: &HostRuntime, outcome: &mut Outcome, inputs: Inputs, count: u64, sample: u64)
     requires { 0 < sample }
 {
-    let sum = run(inputs, count, sample);
-    io::write_all(STDOUT_FILENO, b"inputs ");
-    io::print_decimal(STDOUT_FILENO, count);
-    io::write_all(STDOUT_FILENO, b" checksum ");
-    io::print_decimal(STDOUT_FILENO, sum);
-    outcome::write_out(b"\n");
+    let sum = run(rt, outcome, inputs, count, sample);
+    print(
+        rt,
+        outcome,
+        format_args!("inputs {count} checksum {sum}\n"),
+    );
 }
 
 // Makes the run that a word names, and answers whether it names one.
-fn is_run(word: &[u8]) -> bool {
-    if check::same(word, b"spread") {
-        report(Inputs::Spread, SPREAD, SPREAD_SAMPLE);
+fn is_run(rt: &HostRuntime, outcome: &mut Outcome, word: &[u8]) -> bool {
+    if word == b"spread".as_slice() {
+        report(rt, outcome, Inputs::Spread, SPREAD, SPREAD_SAMPLE);
         return true;
     }
-    if check::same(word, b"whole") {
+    if word == b"whole".as_slice() {
         // from 1.0 on
-        report(Inputs::From(0x3f80_0000), WHOLE, WHOLE_SAMPLE);
+        report(rt, outcome, Inputs::From(0x3f80_0000), WHOLE, WHOLE_SAMPLE);
         return true;
     }
-    if check::same(word, b"every") {
-        report(Inputs::From(0), PATTERNS, EVERY_SAMPLE);
+    if word == b"every".as_slice() {
+        report(rt, outcome, Inputs::From(0), PATTERNS, EVERY_SAMPLE);
         return true;
     }
     false
 }
 
-fn main() {
+fn main(rt: HostRuntime) -> ExitCode {
+    let mut outcome = Outcome::new();
     let usage = b"usage: test_root spread | whole | every\n";
     if !is_to_run(
+        &rt,
+        &mut outcome,
         usage,
         b"writes square roots: of 104693 floats of all exponents, of all floats of two exponents, or of all floats.\n",
         1,
     ) {
-        return;
+        return outcome.status();
     }
-    let mut word = io::buffer();
-    let n = os::arg(1, &mut word);
-    if !is_run(&word[..n]) {
-        refuse(1, usage);
+    let mut word = [0u8; 4096];
+    let n = argument(&rt, 1, &mut word);
+    if !is_run(&rt, &mut outcome, &word[..n]) {
+        refuse(&rt, &mut outcome, 1, usage);
     }
+    outcome.status()
 }

@@ -10,7 +10,8 @@ use decoder::frame::{Framed, frame};
 use decoder::state::{Decoder, start};
 use judging::plan::SideInfo;
 use lag::pitch::{PitchRecord, Present};
-use libc::STDOUT_FILENO;
+use outcome::{Outcome, print};
+use std::process::ExitCode;
 
 // One frame, with numerators of 0.0, denominators of 1.0 and the longest lag, 142 samples.
 fn step(decoder: Decoder, active: bool, nf: usize, samples: &mut [f32]) -> Framed
@@ -69,28 +70,32 @@ fn differing(a: &[f32; 80], b: &[f32; 80]) -> u64 {
     n
 }
 
-// Writes whether both decoders say that they are settled.
-fn print_settled(settled: bool) {
-    if settled {
-        io::write_all(STDOUT_FILENO, b": settled yes");
-    } else {
-        io::write_all(STDOUT_FILENO, b": settled no");
-    }
-}
-
-// Writes a line, and answers whether it could.
-fn report(duration: u32, inactive: usize, settled: bool, differ: u64) -> bool {
-    io::print_decimal(STDOUT_FILENO, duration as u64);
-    io::write_all(STDOUT_FILENO, b" us, inactive frames ");
-    io::print_decimal(STDOUT_FILENO, inactive as u64);
-    print_settled(settled);
-    io::write_all(STDOUT_FILENO, b", samples that differ ");
-    io::print_decimal(STDOUT_FILENO, differ);
-    outcome::write_out(b"\n")
+// Writes a line, and answers whether it could. It says whether both decoders say that they are settled.
+fn report(
+    rt: &HostRuntime,
+    outcome: &mut Outcome,
+    duration: u32,
+    inactive: usize,
+    settled: bool,
+    differ: u64,
+) -> bool {
+    let said = if settled { "yes" } else { "no" };
+    print(
+        rt,
+        outcome,
+        format_args!("{duration} us, inactive frames {inactive}: settled {said}, samples that differ {differ}\n"),
+    )
 }
 
 // The outputs of an equal active frame after so many equal inactive ones.
-fn compare(duration: u32, nf: usize, active: usize, inactive: usize) -> bool
+fn compare(
+    rt: &HostRuntime,
+    outcome: &mut Outcome,
+    duration: u32,
+    nf: usize,
+    active: usize,
+    inactive: usize,
+) -> bool
     requires { nf ≤ 80 }
 {
     let a = prepared(duration, nf, 1.0, active, inactive);
@@ -100,26 +105,47 @@ fn compare(duration: u32, nf: usize, active: usize, inactive: usize) -> bool
     step(a, true, nf, &mut x);
     step(b, true, nf, &mut y);
     let settled = a.registers.marks.settled && b.registers.marks.settled;
-    report(duration, inactive, settled, differing(&x, &y))
+    report(
+        rt,
+        outcome,
+        duration,
+        inactive,
+        settled,
+        differing(&x, &y),
+    )
 }
 
 // One to four inactive frames after so many equal active ones.
-fn compare_each(duration: u32, nf: usize, active: usize) -> bool
+fn compare_each(
+    rt: &HostRuntime,
+    outcome: &mut Outcome,
+    duration: u32,
+    nf: usize,
+    active: usize,
+) -> bool
     requires { nf ≤ 80 }
 {
-    compare(duration, nf, active, 1)
-        && compare(duration, nf, active, 2)
-        && compare(duration, nf, active, 3)
-        && compare(duration, nf, active, 4)
+    compare(rt, outcome, duration, nf, active, 1)
+        && compare(rt, outcome, duration, nf, active, 2)
+        && compare(rt, outcome, duration, nf, active, 3)
+        && compare(rt, outcome, duration, nf, active, 4)
 }
 
-fn main() {
-    if !is_to_run(
+// Both durations, as far as they can be written.
+fn compare_all(rt: &HostRuntime, outcome: &mut Outcome) -> bool {
+    compare_each(rt, outcome, 10000, 80, 1) && compare_each(rt, outcome, 7500, 60, 2)
+}
+
+fn main(rt: HostRuntime) -> ExitCode {
+    let mut outcome = Outcome::new();
+    if is_to_run(
+        &rt,
+        &mut outcome,
         b"usage: test_settling\n",
         b"shows how many inactive frames settle a decoder at 8000 Hz.\n",
         0,
     ) {
-        return;
+        compare_all(&rt, &mut outcome);
     }
-    let _is_written = compare_each(10000, 80, 1) && compare_each(7500, 60, 2);
+    outcome.status()
 }

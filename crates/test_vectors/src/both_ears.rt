@@ -1,5 +1,6 @@
 // The records of both ears that the decoder alone does not have: a frame of both, and what is made up in
 // the state of one.
+use arguments::inputs::Reader;
 use crate::ear::{state_of, with_state};
 use crate::reports::{Given, read_given, read_pitch};
 use crate::run::{Run, broken, stopped, with_tally};
@@ -77,15 +78,15 @@ fn compare_both(tally: Tally, given: Given, framed: BothFramed) -> Tally {
     let right_expected = given.right;
     let left_answer = left.answer;
     let right_answer = right.answer;
-    let one = tally.number(b"left answer", left_expected.answer, number(left_answer));
+    let one = tally.number("left answer", left_expected.answer, number(left_answer));
     let two = one.number(
-        b"left settled",
+        "left settled",
         left_expected.settled,
         left.registers.marks.settled as u64,
     );
-    let three = two.number(b"right answer", right_expected.answer, number(right_answer));
+    let three = two.number("right answer", right_expected.answer, number(right_answer));
     three.number(
-        b"right settled",
+        "right settled",
         right_expected.settled,
         right.registers.marks.settled as u64,
     )
@@ -107,10 +108,10 @@ fn compare_frame(run: Run, given: Given, made: Made) -> Run {
 
 // A frame of both: pitch records, the number of bits and samples go in; answers, settled reports and
 // samples come out.
-pub(crate) fn call_frame(fd: i32, run: Run) -> Run {
-    let left = read_pitch(fd);
-    let right = read_pitch(fd);
-    let given = read_given(fd, true);
+pub(crate) fn call_frame(reader: &mut Reader<'_>, run: Run) -> Run {
+    let left = read_pitch(reader);
+    let right = read_pitch(reader);
+    let given = read_given(reader, true);
     if !given.whole {
         return broken(run);
     }
@@ -124,12 +125,12 @@ pub(crate) fn call_frame(fd: i32, run: Run) -> Run {
 
 // The run after a state that could not be read.
 fn cut_off(run: Run) -> Run {
-    stopped(run, b"a state that is cut off")
+    stopped(run, "a state that is cut off")
 }
 
 // A made-up run of an ear.
-pub(crate) fn put_run(fd: i32, run: Run, ear: u32) -> Run {
-    let length = read_number(fd, 4);
+pub(crate) fn put_run(reader: &mut Reader<'_>, run: Run, ear: u32) -> Run {
+    let length = read_number(reader, 4);
     if !length.whole {
         return cut_off(run);
     }
@@ -137,9 +138,9 @@ pub(crate) fn put_run(fd: i32, run: Run, ear: u32) -> Run {
 }
 
 // A made-up rate and duration of an ear.
-pub(crate) fn put_names(fd: i32, run: Run, ear: u32) -> Run {
-    let rate = read_number(fd, 4);
-    let duration = read_number(fd, 4);
+pub(crate) fn put_names(reader: &mut Reader<'_>, run: Run, ear: u32) -> Run {
+    let rate = read_number(reader, 4);
+    let duration = read_number(reader, 4);
     if !duration.whole {
         return cut_off(run);
     }

@@ -1,5 +1,6 @@
 // The calls of one ear, and of the decoder alone: a start and a loss mark are read, made and compared.
 // An ear is 0 for left, any other number for right.
+use arguments::inputs::Reader;
 use crate::reports::{compare_reports, read_reports};
 use crate::run::{Run, broken};
 use crate::tally::Tally;
@@ -31,10 +32,10 @@ pub(crate) fn after(run: Run, ear: u32, state: Decoder, tally: Tally) -> Run {
 }
 
 // A start: the rate and the duration go in, an answer comes out.
-pub(crate) fn start_ear(fd: i32, run: Run, ear: u32) -> Run {
-    let rate = read_number(fd, 4);
-    let duration = read_number(fd, 4);
-    let expected = read_number(fd, 1);
+pub(crate) fn start_ear(reader: &mut Reader<'_>, run: Run, ear: u32) -> Run {
+    let rate = read_number(reader, 4);
+    let duration = read_number(reader, 4);
+    let expected = read_number(reader, 1);
     if !expected.whole {
         return broken(run);
     }
@@ -47,13 +48,13 @@ pub(crate) fn start_ear(fd: i32, run: Run, ear: u32) -> Run {
         run,
         ear,
         state,
-        counted.number(b"answer", expected, number(answer)),
+        counted.number("answer", expected, number(answer)),
     )
 }
 
 // A loss mark: an answer and the settled report come out.
-pub(crate) fn lose_ear(fd: i32, run: Run, ear: u32) -> Run {
-    let expected = read_reports(fd);
+pub(crate) fn lose_ear(reader: &mut Reader<'_>, run: Run, ear: u32) -> Run {
+    let expected = read_reports(reader);
     if !expected.whole {
         return broken(run);
     }

@@ -1,4 +1,5 @@
 // The encoder's calls: each is read, made and compared.
+use arguments::inputs::Reader;
 use crate::run::{Run, broken};
 use crate::set::Set;
 use crate::tally::Tally;
@@ -44,10 +45,10 @@ fn after(run: Run, encoder: Encoder, tally: Tally) -> Run {
 }
 
 // A start: the rate and the duration go in, an answer comes out.
-pub(crate) fn call_start(fd: i32, run: Run) -> Run {
-    let rate = read_number(fd, 4);
-    let duration = read_number(fd, 4);
-    let expected = read_number(fd, 1);
+pub(crate) fn call_start(reader: &mut Reader<'_>, run: Run) -> Run {
+    let rate = read_number(reader, 4);
+    let duration = read_number(reader, 4);
+    let expected = read_number(reader, 1);
     if !expected.whole {
         return broken(run);
     }
@@ -59,7 +60,7 @@ pub(crate) fn call_start(fd: i32, run: Run) -> Run {
     after(
         run,
         encoder,
-        counted.number(b"answer", expected, number(answer)),
+        counted.number("answer", expected, number(answer)),
     )
 }
 
@@ -80,9 +81,9 @@ fn as_numbers(pitch: PitchRecord) -> Numbers {
 
 // Compares a pitch record.
 fn compare_pitch(tally: Tally, expected: Expected, got: Numbers) -> Tally {
-    let one = tally.number(b"pitch", expected.present, got.present);
-    let two = one.number(b"index", expected.index, got.index);
-    two.number(b"active", expected.active, got.active)
+    let one = tally.number("pitch", expected.present, got.present);
+    let two = one.number("index", expected.index, got.index);
+    two.number("active", expected.active, got.active)
 }
 
 // The run after a frame, with all that came out of it compared.
@@ -92,13 +93,13 @@ fn compare_frame(run: Run, expected: Expected, framed: Framed) -> Run {
     let encoder = framed.encoder;
     let tally = run.tally;
     let counted = tally.frame();
-    let answered = counted.number(b"answer", expected.answer, number(answer));
+    let answered = counted.number("answer", expected.answer, number(answer));
     let compared = compare_pitch(answered, expected, as_numbers(pitch));
     let bits = framed.nbits_ltpf as u64;
     after(
         run,
         encoder,
-        compared.number(b"bits", expected.nbits_ltpf, bits),
+        compared.number("bits", expected.nbits_ltpf, bits),
     )
 }
 
@@ -122,32 +123,32 @@ fn encode(encoder: Encoder, set: Set, given: Given) -> Framed {
     )
 }
 
-fn read_given(fd: i32) -> Given {
-    let near_nyquist = read_number(fd, 1);
-    let nbits = read_number(fd, 4);
-    let count = read_number(fd, 2);
+fn read_given(reader: &mut Reader<'_>) -> Given {
+    let near_nyquist = read_number(reader, 1);
+    let nbits = read_number(reader, 4);
+    let count = read_number(reader, 2);
     Given {
         near_nyquist,
         nbits,
-        samples: read_samples(fd, count.value as usize),
+        samples: read_samples(reader, count.value as usize),
     }
 }
 
-fn read_expected(fd: i32) -> Expected {
+fn read_expected(reader: &mut Reader<'_>) -> Expected {
     Expected {
-        answer: read_number(fd, 1),
-        present: read_number(fd, 1),
-        index: read_number(fd, 4),
-        active: read_number(fd, 1),
-        nbits_ltpf: read_number(fd, 1),
+        answer: read_number(reader, 1),
+        present: read_number(reader, 1),
+        index: read_number(reader, 4),
+        active: read_number(reader, 1),
+        nbits_ltpf: read_number(reader, 1),
     }
 }
 
 // A frame: the flag, the number of bits and samples go in; an answer, a pitch record and the number of
 // its bits come out.
-pub(crate) fn call_frame(fd: i32, run: Run) -> Run {
-    let given = read_given(fd);
-    let expected = read_expected(fd);
+pub(crate) fn call_frame(reader: &mut Reader<'_>, run: Run) -> Run {
+    let given = read_given(reader);
+    let expected = read_expected(reader);
     if !given.samples.whole || !expected.nbits_ltpf.whole {
         return broken(run);
     }

@@ -15,8 +15,10 @@ mod state_parts;
 mod tally;
 mod walk;
 
-use arguments::inputs::{Opened, close, open, write_name};
-use arguments::options::{is_to_run, refuse};
+use arguments::inputs::{Opened, Reader, close, open, write_name};
+use arguments::options::{count, is_to_run, refuse};
+use outcome::{Outcome, argument as put_argument};
+use std::process::ExitCode;
 use walk::{End, compare};
 
 // What an argument means: an end, or a file.
@@ -33,46 +35,47 @@ struct Chosen {
     is_used: bool,
 }
 
-fn meaning(argument: usize) -> Meant {
-    let mut space = io::buffer();
-    let length = os::arg(argument, &mut space);
+fn meaning(rt: &HostRuntime, argument: usize) -> Meant {
+    let mut space = [0u8; 4096];
+    let length = put_argument(rt, argument, &mut space);
     let word = &space[..length];
-    if check::same(word, b"decoder") {
+    if word == b"decoder".as_slice() {
         return Meant::End(End::Decoder);
     }
-    if check::same(word, b"encoder") {
+    if word == b"encoder".as_slice() {
         return Meant::End(End::Encoder);
     }
-    if check::same(word, b"ears") {
+    if word == b"ears".as_slice() {
         return Meant::End(End::Ears);
     }
     Meant::File
 }
 
 // Compares the input that an argument names.
-fn compare_named(end: End, argument: usize) {
-    let opened = open(argument);
-    if let Opened::Input(fd) = opened {
-        if write_name(argument) {
-            compare(end, fd);
+fn compare_named(rt: &HostRuntime, outcome: &mut Outcome, end: End, argument: usize) {
+    let opened = open(rt, outcome, argument);
+    if let Opened::Input(source) = opened {
+        if write_name(rt, outcome, argument) {
+            let mut reader = Reader::new(rt, &source);
+            compare(rt, outcome, end, &mut reader);
         }
-        close(fd);
+        close(source);
     }
 }
 
 // Nothing more is named for an end. An argument that is not there stands for standard input.
-fn finish(chosen: Chosen) {
+fn finish(rt: &HostRuntime, outcome: &mut Outcome, chosen: Chosen) {
     let end = chosen.end;
     if !chosen.is_used {
-        compare_named(end, os::arg_count());
+        compare_named(rt, outcome, end, count(rt));
     }
 }
 
-fn take(chosen: Chosen, argument: usize) -> Chosen {
-    let meant = meaning(argument);
+fn take(rt: &HostRuntime, outcome: &mut Outcome, chosen: Chosen, argument: usize) -> Chosen {
+    let meant = meaning(rt, argument);
     match meant {
         Meant::End(end) => {
-            finish(chosen);
+            finish(rt, outcome, chosen);
             Chosen {
                 end,
                 is_used: false,
@@ -80,38 +83,47 @@ fn take(chosen: Chosen, argument: usize) -> Chosen {
         }
         Meant::File => {
             let end = chosen.end;
-            compare_named(end, argument);
+            compare_named(rt, outcome, end, argument);
             Chosen { end, is_used: true }
         }
     }
 }
 
 // Takes the arguments after the first end.
-fn take_all(first: End) -> Chosen {
+fn take_all(rt: &HostRuntime, outcome: &mut Outcome, first: End) -> Chosen {
     let mut chosen = Chosen {
         end: first,
         is_used: false,
     };
-    for argument in 2..os::arg_count() {
-        chosen = take(chosen, argument);
+    for argument in 2..count(rt) {
+        chosen = take(rt, outcome, chosen, argument);
     }
     chosen
 }
 
-fn main() {
+// Compares what the arguments name.
+fn compare_all(rt: &HostRuntime, outcome: &mut Outcome, usage: &[u8]) {
+    let meant = meaning(rt, 1);
+    let Meant::End(first) = meant else {
+        refuse(rt, outcome, 1, usage);
+        return;
+    };
+    let last = take_all(rt, outcome, first);
+    finish(rt, outcome, last);
+}
+
+fn main(rt: HostRuntime) -> ExitCode {
+    let mut outcome = Outcome::new();
     let usage =
         b"usage: test_vectors decoder|encoder|ears [FILE].. [decoder|encoder|ears [FILE]..]..\n";
-    if !is_to_run(
+    if is_to_run(
+        &rt,
+        &mut outcome,
         usage,
         b"makes every call that vector files list, and prints where what it gives differs from what they say; from\nstandard input for a dash, and where no file is named.\n",
         usize::MAX,
     ) {
-        return;
+        compare_all(&rt, &mut outcome, usage);
     }
-    let meant = meaning(1);
-    let Meant::End(first) = meant else {
-        refuse(1, usage);
-        return;
-    };
-    finish(take_all(first));
+    outcome.status()
 }

@@ -1,4 +1,5 @@
 // A frame of the decoder: it is read, made and compared.
+use arguments::inputs::Reader;
 use crate::ear::after;
 use crate::reports::{Given, compare_reports, read_given, read_pitch};
 use crate::run::{Run, broken};
@@ -64,9 +65,9 @@ fn compare_frame(run: Run, given: Given, made: Made) -> Run {
 
 // A frame: a pitch record, the number of bits and samples go in; an answer, the settled report and
 // samples come out.
-pub(crate) fn call_frame(fd: i32, run: Run) -> Run {
-    let pitch = read_pitch(fd);
-    let given = read_given(fd, false);
+pub(crate) fn call_frame(reader: &mut Reader<'_>, run: Run) -> Run {
+    let pitch = read_pitch(reader);
+    let given = read_given(reader, false);
     if !given.whole {
         return broken(run);
     }

@@ -1,4 +1,5 @@
 // What a vector file has for a call of the decoder beside samples.
+use arguments::inputs::Reader;
 use crate::tally::Tally;
 use lag::pitch::{PitchRecord, Present};
 use vectors::read::{Floats, Number, read_floats, read_number};
@@ -22,9 +23,9 @@ pub struct Given {
     pub expected: Floats,
 }
 
-pub(crate) fn read_reports(fd: i32) -> Reports {
-    let answer = read_number(fd, 1);
-    let settled = read_number(fd, 1);
+pub(crate) fn read_reports(reader: &mut Reader<'_>) -> Reports {
+    let answer = read_number(reader, 1);
+    let settled = read_number(reader, 1);
     Reports {
         whole: settled.whole,
         answer,
@@ -39,15 +40,15 @@ pub(crate) fn compare_reports(
     answer: u64,
     settled: bool,
 ) -> Tally {
-    let compared = tally.number(b"answer", expected.answer, answer);
-    compared.number(b"settled", expected.settled, settled as u64)
+    let compared = tally.number("answer", expected.answer, answer);
+    compared.number("settled", expected.settled, settled as u64)
 }
 
 // Reads a pitch record: whether it is present, its index and its active mark.
-pub(crate) fn read_pitch(fd: i32) -> PitchRecord {
-    let present = read_number(fd, 1);
-    let index = read_number(fd, 4);
-    let active = read_number(fd, 1);
+pub(crate) fn read_pitch(reader: &mut Reader<'_>) -> PitchRecord {
+    let present = read_number(reader, 1);
+    let index = read_number(reader, 4);
+    let active = read_number(reader, 1);
     if present.value == 0 {
         return PitchRecord::Absent;
     }
@@ -58,18 +59,18 @@ pub(crate) fn read_pitch(fd: i32) -> PitchRecord {
 }
 
 // Reads the reports of the right ear, where there are any beside the left ear's.
-fn read_right(fd: i32, is_both: bool, left: Reports) -> Reports {
-    if is_both { read_reports(fd) } else { left }
+fn read_right(reader: &mut Reader<'_>, is_both: bool, left: Reports) -> Reports {
+    if is_both { read_reports(reader) } else { left }
 }
 
 // Reads a frame from its number of bits on.
-pub(crate) fn read_given(fd: i32, is_both: bool) -> Given {
-    let nbits = read_number(fd, 4);
-    let count = read_number(fd, 2);
-    let samples = read_floats(fd, count.value as usize);
-    let left = read_reports(fd);
-    let right = read_right(fd, is_both, left);
-    let expected = read_floats(fd, count.value as usize);
+pub(crate) fn read_given(reader: &mut Reader<'_>, is_both: bool) -> Given {
+    let nbits = read_number(reader, 4);
+    let count = read_number(reader, 2);
+    let samples = read_floats(reader, count.value as usize);
+    let left = read_reports(reader);
+    let right = read_right(reader, is_both, left);
+    let expected = read_floats(reader, count.value as usize);
     Given {
         whole: right.whole && expected.whole,
         nbits: nbits.value,

@@ -3,6 +3,7 @@ use crate::set::{Set, nothing};
 use crate::tally::Tally;
 use decoder::state::Decoder;
 use encoder::state::Encoder;
+use outcome::Outcome;
 
 // Both ears of the decoder, of which the decoder alone is the left one; the encoder; the set that is
 // lent, and the tally.
@@ -16,7 +17,7 @@ pub struct Run {
 }
 
 // A run before the first record.
-pub(crate) fn begin() -> Run {
+pub(crate) fn begin(rt: &HostRuntime, outcome: &Outcome) -> Run {
     let decoding = decoder::state::start(48000, 10000);
     let encoding = encoder::state::start(48000, 10000);
     let left = decoding.decoder;
@@ -27,7 +28,7 @@ pub(crate) fn begin() -> Run {
         right,
         encoder,
         set: nothing(),
-        tally: Tally::new(),
+        tally: Tally::new(rt, outcome),
     }
 }
 
@@ -39,17 +40,17 @@ pub(crate) fn with_tally(run: Run, tally: Tally) -> Run {
 }
 
 // The run, whose file is compared no further.
-pub(crate) fn stopped(run: Run, why: &[u8]) -> Run {
+pub(crate) fn stopped(run: Run, why: &str) -> Run {
     let tally = run.tally;
     with_tally(run, tally.stop(why))
 }
 
 // The run after a call that could not be read: it is not made.
 pub(crate) fn broken(run: Run) -> Run {
-    stopped(run, b"a call that is cut off or too long")
+    stopped(run, "a call that is cut off or too long")
 }
 
 // The run after a record that its end does not have.
 pub(crate) fn unknown(run: Run) -> Run {
-    stopped(run, b"a record of an unknown kind")
+    stopped(run, "a record of an unknown kind")
 }

@@ -1,4 +1,5 @@
 // The coefficients that a vector file lends an end.
+use arguments::inputs::Reader;
 use vectors::read::{Floats, Number, none, read_floats, read_number};
 
 // Whether the set was read whole, and its tables: the decoder's numerators and denominators, and then
@@ -22,9 +23,9 @@ pub(crate) fn nothing() -> Set {
 }
 
 // How many entries the third table has: the encoder's file says it, and the decoder's has no such table.
-fn read_third_count(fd: i32, has_third: bool) -> Number {
+fn read_third_count(reader: &mut Reader<'_>, has_third: bool) -> Number {
     if has_third {
-        return read_number(fd, 2);
+        return read_number(reader, 2);
     }
     Number {
         whole: true,
@@ -33,13 +34,13 @@ fn read_third_count(fd: i32, has_third: bool) -> Number {
 }
 
 // Reads a set: the counts of the tables, then the tables.
-pub(crate) fn read_set(fd: i32, has_third: bool) -> Set {
-    let first_count = read_number(fd, 2);
-    let second_count = read_number(fd, 2);
-    let third_count = read_third_count(fd, has_third);
-    let first = read_floats(fd, first_count.value as usize);
-    let second = read_floats(fd, second_count.value as usize);
-    let third = read_floats(fd, third_count.value as usize);
+pub(crate) fn read_set(reader: &mut Reader<'_>, has_third: bool) -> Set {
+    let first_count = read_number(reader, 2);
+    let second_count = read_number(reader, 2);
+    let third_count = read_third_count(reader, has_third);
+    let first = read_floats(reader, first_count.value as usize);
+    let second = read_floats(reader, second_count.value as usize);
+    let third = read_floats(reader, third_count.value as usize);
     let counted = second_count.whole && third_count.whole;
     let whole = counted && first.whole && second.whole && third.whole;
     Set {

@@ -1,7 +1,9 @@
 // The tally of a comparison: the calls made so far and the differences found. Calls are counted from
 // 1, each kind by itself, and a difference is printed with its call.
 use floats::bits::bits_of;
-use libc::{STDERR_FILENO, STDOUT_FILENO};
+use outcome::{Outcome, begin_message, failed};
+use std::fmt;
+use std::fmt::Display;
 use std::num::wrapping_add_u64;
 use vectors::read::{Floats, Number};
 
@@ -16,7 +18,8 @@ pub const LOSS: u32 = 0x4c;
 const PRINTED: u64 = 1000;
 
 // Whether there is more to compare, the kind of the last call, how many calls there were, how many of
-// each kind, and how many numbers of their answers differed.
+// each kind, and how many numbers of their answers differed; and how the program has fared, and what it
+// writes by.
 #[derive(Clone, Copy)]
 pub struct Tally {
     pub more: bool,
@@ -26,20 +29,30 @@ pub struct Tally {
     pub frames: u64,
     pub losses: u64,
     pub differences: u64,
+    pub outcome: Outcome,
+    pub rt: HostRuntime,
 }
 
-fn print_count(fd: i32, name: &[u8], count: u64) {
-    io::write_all(fd, name);
-    io::print_decimal(fd, count);
+// A call, by its number among those of its kind.
+#[derive(Clone, Copy)]
+enum Call {
+    Start(u64),
+    Frame(u64),
+    Loss(u64),
 }
 
-fn print_bits(name: &[u8], bits: u32) {
-    io::write_all(STDOUT_FILENO, name);
-    io::print_hex(STDOUT_FILENO, bits as u64, 8);
+impl Display for Call {
+    fn fmt<W: fmt::Write>(&self, f: &mut fmt::Formatter<W>) -> fmt::Result {
+        match self {
+            Call::Start(number) => write!(f, "start {number}"),
+            Call::Frame(number) => write!(f, "frame {number}"),
+            Call::Loss(number) => write!(f, "loss mark {number}"),
+        }
+    }
 }
 
 impl Tally {
-    pub(crate) fn new() -> Self {
+    pub(crate) fn new(rt: &HostRuntime, outcome: &Outcome) -> Self {
         Tally {
             more: true,
             kind: START,
@@ -48,6 +61,8 @@ impl Tally {
             frames: 0,
             losses: 0,
             differences: 0,
+            outcome: *outcome,
+            rt: *rt,
         }
     }
 
@@ -73,13 +88,23 @@ impl Tally {
     }
 
     // The call that was counted last.
-    fn print_call(self, fd: i32) {
+    fn call(self) -> Call {
         let kind = self.kind;
         match kind {
-            START => print_count(fd, b"start ", self.starts),
-            FRAME => print_count(fd, b"frame ", self.frames),
-            _ => print_count(fd, b"loss mark ", self.losses),
+            START => Call::Start(self.starts),
+            FRAME => Call::Frame(self.frames),
+            _ => Call::Loss(self.losses),
         }
+    }
+
+    // Writes to standard output. Once that takes no more there is no more to compare.
+    fn print<D: Display + Drop>(mut self, text: D) -> Self {
+        let mut outcome = self.outcome;
+        if !outcome::print(&self.rt, &mut outcome, text) {
+            self.more = false;
+        }
+        self.outcome = outcome;
+        self
     }
 
     // One more difference.
@@ -88,33 +113,28 @@ impl Tally {
         self
     }
 
-    fn print_number(self, name: &[u8], expected: u64, got: u64) {
-        self.print_call(STDOUT_FILENO);
-        io::write_all(STDOUT_FILENO, b" ");
-        io::write_all(STDOUT_FILENO, name);
-        print_count(STDOUT_FILENO, b" expected ", expected);
-        print_count(STDOUT_FILENO, b" got ", got);
-        io::write_all(STDOUT_FILENO, b"\n");
+    fn print_number(self, name: &str, expected: u64, got: u64) -> Self {
+        let call = self.call();
+        self.print(format_args!("{call} {name} expected {expected} got {got}\n"))
     }
 
     // Compares a number of the last call's answer, and prints it where it differs.
-    pub(crate) fn number(self, name: &[u8], expected: Number, got: u64) -> Self {
+    pub(crate) fn number(self, name: &str, expected: Number, got: u64) -> Self {
         let wanted = expected.value as u64;
         if wanted == got {
             return self;
         }
         if self.differences < PRINTED {
-            self.print_number(name, wanted, got);
+            return self.print_number(name, wanted, got).differs();
         }
         self.differs()
     }
 
-    fn print_sample(self, place: usize, expected: u32, got: u32) {
-        self.print_call(STDOUT_FILENO);
-        print_count(STDOUT_FILENO, b" sample ", place as u64);
-        print_bits(b" expected ", expected);
-        print_bits(b" got ", got);
-        io::write_all(STDOUT_FILENO, b"\n");
+    fn print_sample(self, place: usize, expected: u32, got: u32) -> Self {
+        let call = self.call();
+        self.print(format_args!(
+            "{call} sample {place} expected {expected:08x} got {got:08x}\n"
+        ))
     }
 
     // Compares a sample of the last call's answer by its bits, any NaN with any NaN.
@@ -125,7 +145,9 @@ impl Tally {
             return self;
         }
         if self.differences < PRINTED {
-            self.print_sample(place, expected_bits, got_bits);
+            return self
+                .print_sample(place, expected_bits, got_bits)
+                .differs();
         }
         self.differs()
     }
@@ -143,15 +165,20 @@ impl Tally {
         compared
     }
 
-    // The counts, on a line. A difference is a failure, and so is a line that cannot be written.
-    pub(crate) fn print_counts(self) {
-        print_count(STDOUT_FILENO, b"calls ", self.calls);
-        print_count(STDOUT_FILENO, b" frames ", self.frames);
-        print_count(STDOUT_FILENO, b" differences ", self.differences);
-        outcome::write_out(b"\n");
-        if self.differences > 0 {
-            outcome::failed();
+    // Prints the counts, on a line, and answers how the program has fared then. A difference is a failure,
+    // and so is a line that cannot be written.
+    pub(crate) fn print_counts(self) -> Outcome {
+        let calls = self.calls;
+        let frames = self.frames;
+        let differences = self.differences;
+        let printed = self.print(format_args!(
+            "calls {calls} frames {frames} differences {differences}\n"
+        ));
+        let mut outcome = printed.outcome;
+        if differences > 0 {
+            failed(&mut outcome);
         }
+        outcome
     }
 
     // The tally at the end of a file.
@@ -161,14 +188,13 @@ impl Tally {
     }
 
     // The same, and standard error is told why the rest of the file is not compared: a failure.
-    pub(crate) fn stop(self, why: &[u8]) -> Self {
-        outcome::begin_message();
-        io::write_all(STDERR_FILENO, b"after ");
-        self.print_call(STDERR_FILENO);
-        io::write_all(STDERR_FILENO, b": ");
-        io::write_all(STDERR_FILENO, why);
-        io::write_all(STDERR_FILENO, b"\n");
-        outcome::failed();
+    pub(crate) fn stop(mut self, why: &str) -> Self {
+        let call = self.call();
+        begin_message(&self.rt);
+        let _ = eprintln!(self.rt; "after {call}: {why}");
+        let mut outcome = self.outcome;
+        failed(&mut outcome);
+        self.outcome = outcome;
         self.end()
     }
 }

@@ -5,6 +5,7 @@ ghost use Rattle.vectors.specs.Parts.{filled, no_floats, NumberRead, FloatsRead,
 
 use crate::numbers::{of_four, signed_of_two};
 use floats::bits::float_of;
+use std::io::Read;
 
 // The most numbers that a part may have.
 const MOST: usize = 1024;
@@ -29,15 +30,30 @@ pub struct Samples {
     pub count: usize,
 }
 
+// Reads until bytes are full, the input ends or a read fails, and answers how many bytes came.
+fn read_full<R: Read>(reader: &mut R, bytes: &mut [u8]) -> usize
+    ensures { result ≤ length bytes.new }
+{
+    let mut done = 0;
+    while done < bytes.len() {
+        match reader.read(&mut bytes[done..]) {
+            Ok(0) => break,
+            Ok(count) => done += count,
+            Err(_) => break,
+        }
+    }
+    done
+}
+
 // Fills all of bytes, or answers that there were too few.
-fn read_bytes(fd: i32, bytes: &mut [u8]) -> bool
+fn read_bytes<R: Read>(reader: &mut R, bytes: &mut [u8]) -> bool
     ensures { length bytes.old ≡ 0 → result ≡ true }
 {
-    io::read_full(fd, bytes) == bytes.len()
+    read_full(reader, bytes) == bytes.len()
 }
 
 // Reads a number of so many bytes, at most four.
-pub fn read_number(fd: i32, width: usize) -> Number
+pub fn read_number<R: Read>(reader: &mut R, width: usize) -> Number
     ensures { NumberRead width result }
 {
     let mut bytes = [0u8; 4];
@@ -47,7 +63,7 @@ pub fn read_number(fd: i32, width: usize) -> Number
             value: 0,
         };
     }
-    let whole = read_bytes(fd, &mut bytes[..width]);
+    let whole = read_bytes(reader, &mut bytes[..width]);
     Number {
         whole,
         value: of_four(bytes[0], bytes[1], bytes[2], bytes[3]),
@@ -80,16 +96,16 @@ pub fn none() -> Floats
 }
 
 // Reads count floats, at most 1024.
-pub fn read_floats(fd: i32, count: usize) -> Floats
+pub fn read_floats<R: Read>(reader: &mut R, count: usize) -> Floats
     ensures { FloatsRead count result }
 {
     if count > MOST {
         return none();
     }
     let mut values = [0.0f32; 1024];
-    let mut bytes = io::buffer();
+    let mut bytes = [0u8; 4096];
     let size = 4 * count;
-    let whole = read_bytes(fd, &mut bytes[..size]);
+    let whole = read_bytes(reader, &mut bytes[..size]);
     put_floats(&bytes, count, &mut values);
     Floats {
         whole,
@@ -112,7 +128,7 @@ fn put_samples(bytes: &[u8; 4096], count: usize, values: &mut [i16])
 }
 
 // Reads count signed samples, at most 1024.
-pub fn read_samples(fd: i32, count: usize) -> Samples
+pub fn read_samples<R: Read>(reader: &mut R, count: usize) -> Samples
     ensures { SamplesRead count result }
 {
     let mut values = [0i16; 1024];
@@ -123,9 +139,9 @@ pub fn read_samples(fd: i32, count: usize) -> Samples
             count: 0,
         };
     }
-    let mut bytes = io::buffer();
+    let mut bytes = [0u8; 4096];
     let size = 2 * count;
-    let whole = read_bytes(fd, &mut bytes[..size]);
+    let whole = read_bytes(reader, &mut bytes[..size]);
     put_samples(&bytes, count, &mut values);
     Samples {
         whole,

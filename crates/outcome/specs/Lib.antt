@@ -1,0 +1,2 @@
+-- How a program has fared.
+pub mod Outcomes

@@ -1,0 +1,11 @@
+-- `first_signed`: the part has as many elements as asked for, and is the whole where there are no more.
+use mathlib.Core.Path.{sym}
+use native.Mathlib.Omega.{arith}
+use lib.Seq.{length-take-le, take_all}
+use Rattle.vectors.proofs.part.first_signed.Goals as goal
+
+pub slice_bounds-result-end : goal.slice_bounds-result-end
+slice_bounds-result-end c = sym (length-take-le _ _ (omega arith))
+
+pub returns-else-count-whole : goal.returns-else-count-whole
+returns-else-count-whole c = sym (take_all c.args.count c.args.samples.now (omega arith))
