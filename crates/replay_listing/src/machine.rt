@@ -66,8 +66,8 @@ pub fn begin() -> Listing
 
 // Writes the header, and answers its length.
 pub fn put_header(out: &mut [u8; 256]) -> usize
-    ensures written { Written out.old 0 header out.new result }
-    ensures value { result ≡ 52 }
+    ensures header_written { Written out.old 0 header out.new result }
+    ensures header_length { result ≡ 52 }
 {
     put_text(
         out,
@@ -101,10 +101,10 @@ fn replay_held(replay: Replay, held: Held) -> Replayed
 impl Listing {
     // Takes bytes of input while there is space for a row, and writes the rows that they end.
     pub fn feed(self, input: &[u8], out: &mut [u8]) -> Fed
-        ensures used_value { result.used ≡ taken self input.now (length out.old) }
-        ensures listing_value { result.listing ≡ after self (take result.used input.now) }
-        ensures written { Written out.old 0 (text self (take result.used input.now)) out.new result.written }
-        ensures used_in_bounds { (result.used ≤ length input.now) × (result.written ≤ length out.old) }
+        ensures bytes_taken { result.used ≡ taken self input.now (length out.old) }
+        ensures listing_after { result.listing ≡ after self (take result.used input.now) }
+        ensures rows_written { Written out.old 0 (text self (take result.used input.now)) out.new result.written }
+        ensures within_bounds { (result.used ≤ length input.now) × (result.written ≤ length out.old) }
     {
         let mut replay = self.replay;
         let mut held = self.held;
@@ -135,8 +135,8 @@ impl Listing {
 
     // Writes the row of a last line that no newline ended, and answers its length.
     pub fn finish(self, out: &mut [u8; 256]) -> usize
-        ensures written { Written out.old 0 (last_text self) out.new result }
-        ensures upper_bound { result ≤ 169 }
+        ensures last_row_written { Written out.old 0 (last_text self) out.new result }
+        ensures length_within { result ≤ 169 }
     {
         let held = self.held;
         let replay = self.replay;

@@ -21,8 +21,8 @@ fn flag_number(flag: bool) -> u64
 // Whole and quarter, or two dashes for an inactive frame.
 fn put_lag(out: &mut [u8], at: usize, active: bool, lag: Lag) -> usize
     requires { at + 42 ≤ length out.old }
-    ensures written { Written out.old at (lag_text active lag) out.new result }
-    ensures upper_bound { result ≤ at + 42 }
+    ensures cells_written { Written out.old at (lag_text active lag) out.new result }
+    ensures next_within { result ≤ at + 42 }
 {
     if active {
         let next = put_cell(out, at, lag.whole as u64, b'\t');
@@ -35,8 +35,8 @@ fn put_lag(out: &mut [u8], at: usize, active: bool, lag: Lag) -> usize
 // The row of the gain, or a dash for an inactive frame or a gain that is off.
 fn put_gain(out: &mut [u8], at: usize, active: bool, gain: Gain) -> usize
     requires { at + 21 ≤ length out.old }
-    ensures written { Written out.old at (gain_text active gain) out.new result }
-    ensures upper_bound { result ≤ at + 21 }
+    ensures cell_written { Written out.old at (gain_text active gain) out.new result }
+    ensures next_within { result ≤ at + 21 }
 {
     if !active {
         return put_dash(out, at, b'\t');
@@ -50,8 +50,8 @@ fn put_gain(out: &mut [u8], at: usize, active: bool, gain: Gain) -> usize
 // The lag's rounding, or a dash.
 fn put_rounding(out: &mut [u8], at: usize, rounding: Rounding) -> usize
     requires { at + 22 ≤ length out.old }
-    ensures written { Written out.old at (rounding_text rounding) out.new result }
-    ensures upper_bound { result ≤ at + 22 }
+    ensures cell_written { Written out.old at (rounding_text rounding) out.new result }
+    ensures next_within { result ≤ at + 22 }
 {
     match rounding {
         Rounding::None => put_dash(out, at, b'\t'),
@@ -62,8 +62,8 @@ fn put_rounding(out: &mut [u8], at: usize, rounding: Rounding) -> usize
 // The six cells of an accepted frame.
 fn put_columns(out: &mut [u8], at: usize, columns: Columns) -> usize
     requires { at + 127 ≤ length out.old }
-    ensures written { Written out.old at (columns_text columns) out.new result }
-    ensures upper_bound { result ≤ at + 127 }
+    ensures cells_written { Written out.old at (columns_text columns) out.new result }
+    ensures next_within { result ≤ at + 127 }
 {
     let told = columns.told;
     let transition = told.transition;
@@ -80,8 +80,8 @@ fn put_columns(out: &mut [u8], at: usize, columns: Columns) -> usize
 // Six dashes.
 fn put_dashes(out: &mut [u8], at: usize) -> usize
     requires { at + 127 ≤ length out.old }
-    ensures written { Written out.old at dashes_text out.new result }
-    ensures upper_bound { result ≤ at + 127 }
+    ensures cells_written { Written out.old at dashes_text out.new result }
+    ensures next_within { result ≤ at + 127 }
 {
     put_text(out, at, b"-\t-\t-\t-\t-\t-\t")
 }
@@ -89,8 +89,8 @@ fn put_dashes(out: &mut [u8], at: usize) -> usize
 // The six cells between a row's number and its answer.
 fn put_shown(out: &mut [u8], at: usize, shown: Shown) -> usize
     requires { at + 127 ≤ length out.old }
-    ensures written { Written out.old at (shown_text shown) out.new result }
-    ensures upper_bound { result ≤ at + 127 }
+    ensures cells_written { Written out.old at (shown_text shown) out.new result }
+    ensures next_within { result ≤ at + 127 }
 {
     match shown {
         Shown::Dashes => put_dashes(out, at),
@@ -101,8 +101,8 @@ fn put_shown(out: &mut [u8], at: usize, shown: Shown) -> usize
 // A row, with the number of its line first. It is written from `at` on, and the answer is where the
 // next byte goes; where fewer than 169 bytes are left nothing is written, and the answer is `at`.
 pub fn put_row(out: &mut [u8], at: usize, line: u64, row: Row) -> usize
-    ensures put { Put 169 out.old at (row_text line row) out.new result }
-    ensures upper_bound { result ≤ at + 169 }
+    ensures row_put { Put 169 out.old at (row_text line row) out.new result }
+    ensures next_within { result ≤ at + 169 }
 {
     if out.len() < 169 {
         return at;

@@ -1,6 +1,5 @@
 -- `numbered` looks for the word first, and then for side information.
 use Rattle.entries.specs.Lines.{numbered}
-use borrow.Author.Rules.{rules}
 use Rattle.entries.proofs.line.numbered.Goals as goal
 
 pub returns-then-is_lost : goal.returns-then-is_lost

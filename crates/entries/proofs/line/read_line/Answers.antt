@@ -6,7 +6,6 @@ use mathlib.Core.Path.{◌≡◌, sym}
 use lib.Seq.{length-take-le}
 use Rattle.lines.specs.Fields.{number_of}
 use Rattle.entries.specs.Lines.{line_read}
-use borrow.Author.Rules.{rules}
 use Rattle.entries.proofs.line.read_line.Goals as goal
 
 pub returns-then-tab-line : goal.returns-then-tab-line

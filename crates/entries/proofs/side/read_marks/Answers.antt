@@ -5,7 +5,6 @@ use borrow.Author.Rules.{part_to_end}
 use mathlib.Core.Path.{sym}
 use lib.Seq.{length-take-le}
 use Rattle.entries.specs.Sides.{marks_read}
-use borrow.Author.Rules.{rules}
 use Rattle.entries.proofs.side.read_marks.Goals as goal
 
 pub returns-then-tab-rest : goal.returns-then-tab-rest

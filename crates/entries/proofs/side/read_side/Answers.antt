@@ -5,7 +5,6 @@ use borrow.Author.Rules.{part_to_end}
 use mathlib.Core.Path.{sym}
 use lib.Seq.{length-take-le}
 use Rattle.entries.specs.Sides.{side_read}
-use borrow.Author.Rules.{rules}
 use Rattle.entries.proofs.side.read_side.Goals as goal
 
 pub returns-then-tab-text : goal.returns-then-tab-text

@@ -1,5 +1,4 @@
 -- `side_with` goes by the pitch field, and at a dash by the mark.
-use borrow.Author.Rules.{rules}
 use Rattle.entries.proofs.side.side_with.Goals as goal
 
 pub returns-in-Number : goal.returns-in-Number

@@ -1,6 +1,5 @@
 -- `judge_marks` goes by the marks' fitness.
 use Rattle.replaying.specs.Frames.{judged_marks}
-use borrow.Author.Rules.{rules}
 use Rattle.replaying.proofs.frame.judge_marks.Goals as goal
 
 pub returns : goal.returns

@@ -3,7 +3,6 @@ use mathlib.Core.Path.{ap}
 use Rattle.rates.specs.declared.answer.Answer.TheVariants.{Done}
 use Rattle.control.specs.declared.marks.Marks.{Marks}
 use Rattle.replaying.specs.Frames.{dashed_row, lost_marks}
-use borrow.Author.Rules.{rules}
 use Rattle.replaying.proofs.frame.lose.Goals as goal
 
 pub returns-in-Config : goal.returns-in-Config

@@ -1,5 +1,4 @@
 -- `play` goes by the verdict.
-use borrow.Author.Rules.{rules}
 use Rattle.replaying.proofs.frame.play.Goals as goal
 
 pub returns-in-Refused : goal.returns-in-Refused

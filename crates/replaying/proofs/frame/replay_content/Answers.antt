@@ -1,5 +1,4 @@
 -- `replay_content` goes by what came of the frame.
-use borrow.Author.Rules.{rules}
 use Rattle.replaying.proofs.frame.replay_content.Goals as goal
 
 pub returns-in-Lost : goal.returns-in-Lost

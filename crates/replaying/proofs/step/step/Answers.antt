@@ -1,5 +1,4 @@
 -- `step` goes by what the line says.
-use borrow.Author.Rules.{rules}
 use Rattle.replaying.proofs.step.step.Goals as goal
 
 pub returns-in-Malformed : goal.returns-in-Malformed

@@ -1,7 +1,6 @@
 -- `step_entry` goes by the number.
 use Rattle.control.proofs.Tested.{failed, passed}
 use Rattle.replaying.specs.Steps.{stepped_entry}
-use borrow.Author.Rules.{rules}
 use Rattle.replaying.proofs.step.step_entry.Goals as goal
 
 pub returns-then-not-follows : goal.returns-then-not-follows

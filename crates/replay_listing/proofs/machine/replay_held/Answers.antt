@@ -7,8 +7,7 @@ use Rattle.replaying.specs.declared.step.Stepped.{Stepped}
 use Rattle.replay_listing.specs.ByMarks.{replayed_line}
 use Rattle.replay_listing.specs.declared.machine.Replay.{Replay}
 use Rattle.replay_listing.specs.declared.machine.Replayed.{Replayed}
-use Rattle.replay_listing.proofs.machine.replay_held.Statement.{statement}
-use Rattle.replay_listing.proofs.machine.replay_held.Tie as tie
+use Rattle.replay_listing.proofs.machine.replay_held.Goals as goal
 
 -- what the code puts together
 abbrev made : ℕ → Stepped → Replayed
@@ -20,29 +19,22 @@ replayed_as_lem : (p : Replay) (n : ℕ) (s : Stepped) (given line : List ℕ) �
 unfolding replayed_line
 replayed_as_lem p n s given line w m e = ap₂ made m (e ∙ ap (stepped p.last p.marks) w)
 
-size : (c : tie.After-bytes) → length c.before.before.before.args.held.bytes ≡ 32
-size c = search rules
+pub slice_bounds-bytes-end : goal.slice_bounds-bytes-end
+slice_bounds-bytes-end c =
+    let size : length c.args.held.bytes ≡ 32 =
+    search rules in
+    omega (arith, size)
 
-array-share-prefix-bytes : tie.Need-array-share-prefix-bytes
-array-share-prefix-bytes c = omega (arith, size c)
+pub slice_bounds-step-end : goal.slice_bounds-step-end
+slice_bounds-step-end c =
+    let size : length c.args.held.bytes ≡ 32 =
+    search rules in
+    sym (length-take-le _ _ (omega (arith, size)))
 
-slice-aggregate-step : tie.Need-slice-aggregate-step
-slice-aggregate-step c = sym (length-take-le _ _ (omega (arith, size c.before)))
-
-returns : tie.Need-returns
+pub returns : goal.returns
 returns c =
-    let b = c.before.before.before.before.before in
-    let held = b.before.before.before.args.held in
-    let whole = ap (λ n. take n held.bytes) b.before.count.ensures ∙ capped held.bytes held.len (size b) in
-    replayed_as_lem _ _ _ _ _ whole c.wrapping-add-u64.ensures c.before.before.before.step.ensures
-
-pub replay-held-spec : {M : Type 1} → statement M
-replay-held-spec =
-    tie.close
-    (tie.spec
-    (λ c κs. search rules)
-    array-share-prefix-bytes
-    slice-aggregate-step
-    (λ c κs. search rules)
-    (λ c κs. search rules)
-    returns)
+    let size : length c.args.held.bytes ≡ 32 =
+    search rules in
+    let held = c.args.held in
+    let whole = ap (λ n. take n held.bytes) c.count-n.ensures ∙ capped held.bytes held.len size in
+    replayed_as_lem _ _ _ _ _ whole c.wrapping_add_u64.ensures.value c.step-stepped.ensures
