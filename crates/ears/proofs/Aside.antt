@@ -21,10 +21,10 @@ pub aside : (v : Float) (others rest : List Float) (nf : ℕ) → others ≡ sto
 aside v others rest nf put e h = rw put (take_stored (replicate 480 v) rest 0 nf (omega arith) (simp length-replicate (omega arith)))
 
 -- neither of two
-pub neither : (a b : Bool) → not (a || b) ≡ true → (a ≡ false) × (b ≡ false)
+pub neither : (a b : Bool) → (a || b) ≡ false → (a ≡ false) × (b ≡ false)
 neither false false e = (refl, refl)
-neither false true e = absurd (true≢false (sym e))
-neither true b e = absurd (true≢false (sym e))
+neither false true e = absurd (true≢false e)
+neither true b e = absurd (true≢false e)
 
 -- the outputs of a frame of the first case are its samples
 pub unchanged : (v : Verdict) (start : ℕ) (ys own : List Float) → Still v start ys own → ((plan : Plan) → v ≡ Accepted plan → plan.transition ≡ Inactive) →

@@ -15,7 +15,7 @@ decided = record { moves = λ s line. refl; answers = λ s line. rw (first_bytes
 
 -- two runs of bytes, one after the other
 pub after_append : (m : Listing) (a b : List ℕ) → after m (a ++ b) ≡ after (after m a) b
-after_append m a b = rw (cuts.state-append lag_rules m.known m.held a b, cuts.held-append m.held a b)
+after_append m a b = rw (cuts.state_append lag_rules m.known m.held a b, cuts.held_append m.held a b)
 
 pub one_piece : (input : List ℕ) → header ++ text first input ++ last_text (after first input) ≡ listing input
 one_piece input = whole.one_piece lag_rules decided input
@@ -28,4 +28,4 @@ progress m offered free l r = cuts.progress lag_rules m.known m.held offered fre
 -- input has bytes are offered one and have 106 bytes of space, all is taken, and what was written is the listing of the whole input.
 pub any_cuts : (input : List ℕ) (cs : List Call) → length input ≤ serving lag_rules cs →
     whole_text lag_rules (called_all lag_rules (begun lag_rules input) cs) ≡ listing input
-any_cuts input cs l = whole.any-cuts lag_rules decided input cs l
+any_cuts input cs l = whole.any_cuts lag_rules decided input cs l

@@ -56,7 +56,7 @@ module _ {r : Registers} {nums dens frame : List Float} {plan : Plan} (j : Judge
         idle = planned.idle fitting as_planned checks;
         lagless = planned.lagless fitting as_planned checks;
         filterable = record {
-          readable = planned.filters-readable fitting as_planned checks kept;
+          readable = planned.filters_readable fitting as_planned checks kept;
           block = block_fits_lem.0;
           newest = newest_fits plan.config r.block_start_index found block_fitting;
           past = sizes.past_fits;

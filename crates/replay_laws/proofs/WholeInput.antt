@@ -55,7 +55,7 @@ module _ (setting : Setting) (usable : Usable setting) where
   -- input has bytes are offered one and have 169 bytes of space, all is taken, and what was written is the replay of the whole input.
   pub any_cuts : (input : List ℕ) (cs : List Call) → length input ≤ serving (marks_rules_of setting) cs →
       whole_text (marks_rules_of setting) (called_all (marks_rules_of setting) (begun (marks_rules_of setting) input) cs) ≡ replay setting input
-  any_cuts input cs l = whole.any-cuts (marks_rules_of setting) (decided setting.rate setting.duration) input cs l ∙ as_the_decoder input
+  any_cuts input cs l = whole.any_cuts (marks_rules_of setting) (decided setting.rate setting.duration) input cs l ∙ as_the_decoder input
 
 pub any_set : (a b : Setting) → Usable a → Usable b → a.rate ≡ b.rate → a.duration ≡ b.duration → (input : List ℕ) → replay a input ≡ replay b input
 any_set a b p q e f input = sym (as_the_decoder a p input) ∙ rw (e, f) (as_the_decoder b q input)

@@ -7,7 +7,7 @@ use Rattle.replay_listing.specs.declared.machine.Listing.{Listing}
 
 -- two runs of bytes, one after the other
 pub after_append : (m : Listing) (a b : List ℕ) → after m (a ++ b) ≡ after (after m a) b
-after_append m a b = rw (cuts.state-append marks_rules m.replay m.held a b, cuts.held-append m.held a b)
+after_append m a b = rw (cuts.state_append marks_rules m.replay m.held a b, cuts.held_append m.held a b)
 
 -- a call that is offered a byte and has space for a row takes at least one byte
 pub progress : (m : Listing) (offered : List ℕ) (free : ℕ) → 0 < length offered → 169 ≤ free → 0 < taken m offered free

@@ -107,6 +107,7 @@ fn write_outputs(x: &[f32; 540], p: usize, filter: &[f32], out: &mut [f32; 404],
 }
 
 // Whether a set has its 239 entries and p is a step of the table.
+#[tactic(auto, unfolding(crate::specs::Resample::usable))]
 fn is_usable(filter: &[f32], p: usize) -> bool
     ensures { result ≡ usable filter.now p }
 {

@@ -1,5 +1,5 @@
 -- Laws of eight entries at once: what they set, what they leave, and that eight sums side by side are eight sums.
-use Prim.Native.Nat.{ℕ, zero, ◌+◌, ◌-◌, ◌≤◌, ◌<◌}
+use Prim.Native.Nat.{ℕ, ◌+◌, ◌-◌, ◌≤◌, ◌<◌}
 use mathlib.Core.Path.{◌≡◌, refl, sym, ◌∙◌, ap, subst}
 use mathlib.Core.Bool.{Bool, true, false}
 use mathlib.Core.List.{List}
@@ -10,7 +10,7 @@ use lib.Ieee.{Float}
 use lib.ListN.{length, take, drop, length-take, length-drop}
 use lib.Seq.{get_or-take, get_or-drop}
 use Rattle.floats.specs.Single.{at}
-use Rattle.lanes.specs.Lanes.{Lane, place, lane, added, from_zero, three_correlated, listed}
+use Rattle.lanes.specs.Lanes.{Lane, place, from_zero, three_correlated, listed}
 use Rattle.lanes.proofs.EachLane.{from_zero_added, each_place, lane_at, placed_eight}
 use Rattle.lanes.specs.Sums.{product_sum, window}
 use Rattle.slices.specs.Written.{written}

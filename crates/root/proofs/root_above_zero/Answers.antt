@@ -37,16 +37,16 @@ float_to_bits-a c = no_nan c.args.x c.requires
 pub returns-then-a-eq-INFINITY : goal.returns-then-a-eq-INFINITY
 returns-then-a-eq-INFINITY c =
     let held : T (fits binary32 c.args.x) =
-        subst T (sym c.well_formed.0.1) tt in
+    subst T (sym c.well_formed.0.1) tt in
     let x = c.args.x in
     ⊎_elim (λ e. rw e infinity.1) (λ p. absurd (omega (arith, c.if-a-eq-INFINITY.true, (positive_pattern x held p).1))) (infinite_or_not x c.requires)
 
 pub nearest_root-requires : goal.nearest_root-requires
 nearest_root-requires c =
     let held : T (fits binary32 c.args.x) =
-        subst T (sym c.well_formed.0.1) tt in
+    subst T (sym c.well_formed.0.1) tt in
     let is_positive : T (positive c.args.x) =
-        ⊎_elim (λ e. absurd (c.if-a-eq-INFINITY.false (ap (to_bits binary32) e ∙ infinity.0))) (λ p. p) (infinite_or_not c.args.x c.requires) in
+    ⊎_elim (λ e. absurd (c.if-a-eq-INFINITY.false (ap (to_bits binary32) e ∙ infinity.0))) (λ p. p) (infinite_or_not c.args.x c.requires) in
     positive_pattern c.args.x held is_positive
 
 pub float_from_bits-result : goal.float_from_bits-result
@@ -55,9 +55,9 @@ float_from_bits-result c = rw (pattern_no_nan c.nearest_root.result c.nearest_ro
 pub returns : goal.returns
 returns c =
     let held : T (fits binary32 c.args.x) =
-        subst T (sym c.well_formed.0.1) tt in
+    subst T (sym c.well_formed.0.1) tt in
     let is_positive : T (positive c.args.x) =
-        ⊎_elim (λ e. absurd (c.if-a-eq-INFINITY.false (ap (to_bits binary32) e ∙ infinity.0))) (λ p. p) (infinite_or_not c.args.x c.requires) in
+    ⊎_elim (λ e. absurd (c.if-a-eq-INFINITY.false (ap (to_bits binary32) e ∙ infinity.0))) (λ p. p) (infinite_or_not c.args.x c.requires) in
     let x = c.args.x in
     let a = to_bits binary32 x in
     let p = is_positive in

@@ -1,11 +1,5 @@
 -- `root::whole_root` meets its contract. The invariant: the root is among the 2 ^ d numbers from q on, and each turn halves them. Assumes nothing.
-use mathlib.Core.Path.{◌≡◌, ap, ◌∙◌}
-use Prim.Native.Nat.{ℕ, suc, ◌+◌, ◌-◌, ◌*◌, ◌%◌, ◌^◌, ◌≤◌, ◌<◌}
-use native.Mathlib.Nat.{one-mul, mod-eq_of_lt, lt_of_le_of_lt, mul-le-mul, pow-suc}
-use native.Mathlib.Omega.{arith}
-use lib.Dec.{lit<}
-use lib.Pow.{pow-lt}
-use borrow.Author.Rules.{rules}
+use Prim.Native.Nat.{◌+◌, ◌*◌, ◌^◌, ◌≤◌, ◌<◌}
 use Rattle.root.proofs.whole_root.Given as goal
 
 abbrev pub invariant-loop-d : goal.invariant-loop-d

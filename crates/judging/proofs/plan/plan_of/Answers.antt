@@ -1,0 +1,6 @@
+-- `plan_of`: each part is the definition's.
+use borrow.Author.Rules.{rules}
+use Rattle.judging.proofs.plan.plan_of.Goals as goal
+
+pub returns : goal.returns
+returns c = rw (c.transition_of-transition.ensures, c.compute_gains_params-gain.ensures, c.is_active-active.ensures)
