@@ -32,8 +32,8 @@ pub fn put_text(out: &mut [u8], at: usize, text: &[u8]) -> usize
 
 // A number, and the byte that ends its cell.
 pub fn put_cell(out: &mut [u8], at: usize, n: u64, end: u8) -> usize
-    ensures put { Put 21 out.old at (cell n end) out.new result }
-    ensures upper_bound { result ≤ at + 21 }
+    ensures cell_put { Put 21 out.old at (cell n end) out.new result }
+    ensures next_within { result ≤ at + 21 }
 {
     if out.len() < 21 {
         return at;
@@ -48,8 +48,8 @@ pub fn put_cell(out: &mut [u8], at: usize, n: u64, end: u8) -> usize
 
 // A dash, and the byte that ends its cell.
 pub fn put_dash(out: &mut [u8], at: usize, end: u8) -> usize
-    ensures put { Put 2 out.old at (dash_cell end) out.new result }
-    ensures upper_bound { result ≤ at + 2 }
+    ensures dash_put { Put 2 out.old at (dash_cell end) out.new result }
+    ensures next_within { result ≤ at + 2 }
 {
     if out.len() < 2 {
         return at;

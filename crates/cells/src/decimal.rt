@@ -28,8 +28,8 @@ pub fn put_number(out: &mut [u8], at: usize, n: u64) -> usize
 // The digits above the last, then the last.
 fn put_digits(out: &mut [u8], at: usize, n: u64) -> usize
     requires { at + length (decimal n) ≤ length out.old }
-    ensures value { result ≡ at + length (decimal n) }
-    ensures out_after { out.new ≡ sets out.old at (decimal n) }
+    ensures next_after_digits { result ≡ at + length (decimal n) }
+    ensures digits_stored { out.new ≡ sets out.old at (decimal n) }
 {
     if n < 10 {
         out[at] = 48 + n as u8;
@@ -44,8 +44,8 @@ fn put_digits(out: &mut [u8], at: usize, n: u64) -> usize
 // n in tens and ones, with no division, for which a small processor has to call a routine. An
 // eighth of four fifths is a tenth, or one too few.
 fn in_tens(n: u64) -> Tens
-    ensures tens_value { result.tens ≡ n / 10 }
-    ensures ones_value { result.ones ≡ n % 10 }
+    ensures quotient { result.tens ≡ n / 10 }
+    ensures remainder { result.ones ≡ n % 10 }
 {
     let tens = four_fifths(n) >> 3;
     let twice = tens + tens;

@@ -7,8 +7,8 @@ use crate::cell::put_cell;
 // Such a number, and the byte that ends its cell; where too little space is left nothing, as in `cell`.
 // Below 0 it takes -1 - n, since -n does not fit 32 bits for the least number.
 pub fn put_signed(out: &mut [u8], at: usize, n: i32, end: u8) -> usize
-    ensures put { Put 22 out.old at (signed_cell n end) out.new result }
-    ensures upper_bound { result ≤ at + 22 }
+    ensures cell_put { Put 22 out.old at (signed_cell n end) out.new result }
+    ensures next_within { result ≤ at + 22 }
 {
     if out.len() < 22 {
         return at;

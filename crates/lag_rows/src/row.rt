@@ -93,8 +93,8 @@ pub fn answer_line(line: &[u8]) -> Row
 // The three cells of a lag.
 fn put_shown(out: &mut [u8], at: usize, shown: Shown) -> usize
     requires { at + 64 ≤ length out.old }
-    ensures written { Written out.old at (shown_text shown) out.new result }
-    ensures upper_bound { result ≤ at + 64 }
+    ensures cells_written { Written out.old at (shown_text shown) out.new result }
+    ensures next_within { result ≤ at + 64 }
 {
     match shown {
         Shown::Dashes => put_text(out, at, b"-\t-\t-\t"),
@@ -110,8 +110,8 @@ fn put_shown(out: &mut [u8], at: usize, shown: Shown) -> usize
 // A row's text, with the number of its line first. It is written from `at` on, and the answer is where
 // the next byte goes; where fewer than 106 bytes are left nothing is written, and the answer is `at`.
 pub fn put_row(out: &mut [u8], at: usize, line: u64, row: Row) -> usize
-    ensures put { Put 106 out.old at (row_text line row) out.new result }
-    ensures upper_bound { result ≤ at + 106 }
+    ensures row_put { Put 106 out.old at (row_text line row) out.new result }
+    ensures next_within { result ≤ at + 106 }
 {
     if out.len() < 106 {
         return at;

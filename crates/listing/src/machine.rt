@@ -38,8 +38,8 @@ const ROW: usize = 106;
 
 // A listing before its first line, with the header written.
 pub fn start(out: &mut [u8; 128]) -> Fed
-    ensures value { result ≡ record { listing = first; used = 0; written = 35 } }
-    ensures out_after { out.new ≡ sets out.old 0 header }
+    ensures begun { result ≡ record { listing = first; used = 0; written = 35 } }
+    ensures header_written { out.new ≡ sets out.old 0 header }
 {
     let written = put_text(out, 0, b"line\twhole\tquarter\trounding\tanswer\n");
     Fed {
@@ -58,8 +58,8 @@ pub fn start(out: &mut [u8; 128]) -> Fed
 // The row of the line that is held.
 fn put_held(out: &mut [u8], at: usize, known: Known, held: Held) -> usize
     requires { at + 106 ≤ length out.old }
-    ensures written { Written out.old at (row_text known.line (answer_to (held_line held))) out.new result }
-    ensures upper_bound { result ≤ at + 106 }
+    ensures row_written { Written out.old at (row_text known.line (answer_to (held_line held))) out.new result }
+    ensures next_within { result ≤ at + 106 }
 {
     let n = count(held);
     let bytes = held.bytes;
@@ -70,10 +70,10 @@ fn put_held(out: &mut [u8], at: usize, known: Known, held: Held) -> usize
 impl Listing {
     // Takes bytes of input while there is space for a row, and writes the rows that they end.
     pub fn feed(self, input: &[u8], out: &mut [u8]) -> Fed
-        ensures used_value { result.used ≡ taken self input.now (length out.old) }
-        ensures listing_value { result.listing ≡ after self (take result.used input.now) }
-        ensures written { Written out.old 0 (text self (take result.used input.now)) out.new result.written }
-        ensures used_in_bounds { (result.used ≤ length input.now) × (result.written ≤ length out.old) }
+        ensures bytes_taken { result.used ≡ taken self input.now (length out.old) }
+        ensures listing_after { result.listing ≡ after self (take result.used input.now) }
+        ensures rows_written { Written out.old 0 (text self (take result.used input.now)) out.new result.written }
+        ensures within_bounds { (result.used ≤ length input.now) × (result.written ≤ length out.old) }
     {
         let mut known = self.known;
         let mut held = self.held;
@@ -103,8 +103,8 @@ impl Listing {
 
     // Writes the row of a last line that no newline ended, and answers its length.
     pub fn finish(self, out: &mut [u8; 128]) -> usize
-        ensures written { Written out.old 0 (last_text self) out.new result }
-        ensures upper_bound { result ≤ 106 }
+        ensures last_row_written { Written out.old 0 (last_text self) out.new result }
+        ensures length_within { result ≤ 106 }
     {
         let held = self.held;
         let known = self.known;
