@@ -53,7 +53,12 @@ fn print_reading(rt: &HostRuntime, outcome: &mut outcome::Outcome, reading: Read
 }
 
 // A record written over bytes, and what they are then read as.
-fn write_line(rt: &HostRuntime, outcome: &mut outcome::Outcome, bytes: &mut [u8], pitch: PitchRecord) -> bool {
+fn write_line(
+    rt: &HostRuntime,
+    outcome: &mut outcome::Outcome,
+    bytes: &mut [u8],
+    pitch: PitchRecord,
+) -> bool {
     let writing = write_pitch(bytes, pitch);
     let answer = writing.answer;
     print_pitch(rt, outcome, pitch);
@@ -65,17 +70,33 @@ fn write_line(rt: &HostRuntime, outcome: &mut outcome::Outcome, bytes: &mut [u8]
 }
 
 // The same over so many bytes of A5.
-fn write_into(rt: &HostRuntime, outcome: &mut outcome::Outcome, room: usize, pitch: PitchRecord) -> bool
+fn write_into(
+    rt: &HostRuntime,
+    outcome: &mut outcome::Outcome,
+    room: usize,
+    pitch: PitchRecord,
+) -> bool
     requires { room ≤ 3 }
 {
     let mut bytes = [0xa5u8; 3];
     write_line(rt, outcome, &mut bytes[..room], pitch)
 }
 
-fn write_present(rt: &HostRuntime, outcome: &mut outcome::Outcome, room: usize, index: u32, active: bool) -> bool
+fn write_present(
+    rt: &HostRuntime,
+    outcome: &mut outcome::Outcome,
+    room: usize,
+    index: u32,
+    active: bool,
+) -> bool
     requires { room ≤ 3 }
 {
-    write_into(rt, outcome, room, PitchRecord::Present(Present { index, active }))
+    write_into(
+        rt,
+        outcome,
+        room,
+        PitchRecord::Present(Present { index, active }),
+    )
 }
 
 // All 1,025 records, with room to spare.

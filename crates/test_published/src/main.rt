@@ -28,32 +28,65 @@ fn print_table(rt: &HostRuntime, outcome: &mut Outcome, name: &str, table: &[f32
 // The tables of the encoder.
 fn print_encoder(rt: &HostRuntime, outcome: &mut Outcome) -> bool {
     print_table(rt, outcome, "resampling", &published::RESAMPLING)
-        && print_table(rt, outcome, "correlation_interpolation",
+        && print_table(
+            rt,
+            outcome,
+            "correlation_interpolation",
             &published::CORRELATION_INTERPOLATION,
         )
-        && print_table(rt, outcome, "signal_interpolation", &published::SIGNAL_INTERPOLATION)
+        && print_table(
+            rt,
+            outcome,
+            "signal_interpolation",
+            &published::SIGNAL_INTERPOLATION,
+        )
 }
 
 // The decoder's tables of the two lowest rates.
 fn print_low(rt: &HostRuntime, outcome: &mut Outcome) -> bool {
     print_table(rt, outcome, "numerator_8000", &published::NUMERATOR_8000)
-        && print_table(rt, outcome, "denominator_8000", &published::DENOMINATOR_8000)
+        && print_table(
+            rt,
+            outcome,
+            "denominator_8000",
+            &published::DENOMINATOR_8000,
+        )
         && print_table(rt, outcome, "numerator_16000", &published::NUMERATOR_16000)
-        && print_table(rt, outcome, "denominator_16000", &published::DENOMINATOR_16000)
+        && print_table(
+            rt,
+            outcome,
+            "denominator_16000",
+            &published::DENOMINATOR_16000,
+        )
 }
 
 // Those of the next two.
 fn print_middle(rt: &HostRuntime, outcome: &mut Outcome) -> bool {
     print_table(rt, outcome, "numerator_24000", &published::NUMERATOR_24000)
-        && print_table(rt, outcome, "denominator_24000", &published::DENOMINATOR_24000)
+        && print_table(
+            rt,
+            outcome,
+            "denominator_24000",
+            &published::DENOMINATOR_24000,
+        )
         && print_table(rt, outcome, "numerator_32000", &published::NUMERATOR_32000)
-        && print_table(rt, outcome, "denominator_32000", &published::DENOMINATOR_32000)
+        && print_table(
+            rt,
+            outcome,
+            "denominator_32000",
+            &published::DENOMINATOR_32000,
+        )
 }
 
 // Those of the highest.
 fn print_high(rt: &HostRuntime, outcome: &mut Outcome) -> bool {
     print_table(rt, outcome, "numerator_48000", &published::NUMERATOR_48000)
-        && print_table(rt, outcome, "denominator_48000", &published::DENOMINATOR_48000)
+        && print_table(
+            rt,
+            outcome,
+            "denominator_48000",
+            &published::DENOMINATOR_48000,
+        )
 }
 
 // Writes all tables, as far as they can be written, and answers whether all of them were.

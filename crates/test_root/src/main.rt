@@ -148,11 +148,7 @@ fn report(rt: &HostRuntime, outcome: &mut Outcome, inputs: Inputs, count: u64, s
     requires { 0 < sample }
 {
     let sum = run(rt, outcome, inputs, count, sample);
-    print(
-        rt,
-        outcome,
-        format_args!("inputs {count} checksum {sum}\n"),
-    );
+    print(rt, outcome, format_args!("inputs {count} checksum {sum}\n"));
 }
 
 // Makes the run that a word names, and answers whether it names one.

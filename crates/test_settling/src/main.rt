@@ -83,7 +83,9 @@ fn report(
     print(
         rt,
         outcome,
-        format_args!("{duration} us, inactive frames {inactive}: settled {said}, samples that differ {differ}\n"),
+        format_args!(
+            "{duration} us, inactive frames {inactive}: settled {said}, samples that differ {differ}\n"
+        ),
     )
 }
 
@@ -105,14 +107,7 @@ fn compare(
     step(a, true, nf, &mut x);
     step(b, true, nf, &mut y);
     let settled = a.registers.marks.settled && b.registers.marks.settled;
-    report(
-        rt,
-        outcome,
-        duration,
-        inactive,
-        settled,
-        differing(&x, &y),
-    )
+    report(rt, outcome, duration, inactive, settled, differing(&x, &y))
 }
 
 // One to four inactive frames after so many equal active ones.
