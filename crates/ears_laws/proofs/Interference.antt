@@ -31,7 +31,7 @@ use Rattle.decoder.specs.declared.frame.Framed.{Framed}
 use Rattle.interleave.specs.Turns.{lefts, rights}
 use Rattle.ears_judging.specs.Judge.{named_alike}
 use Rattle.ears.specs.Both.{ear_framed, both_framed}
-use Rattle.ears_laws.specs.Calls.{Headset, WhichEar, left_ear, right_ear, own, Rings, Arrays, Given, framed_both, frame, after, samples_of, pitch_of, part_of, EarGiven, given_to, ear_framed_by, ear}
+use Rattle.ears_laws.specs.Calls.{Headset, WhichEar, left_ear, right_ear, own, Rings, Arrays, Given, framed_both, frame, after, samples_of, pitch_of, part_of, EarGiven, given_to, ear_framed_by}
 use Rattle.interleave.proofs.Buffers.{turned, taken_apart, lengths, halves}
 use Rattle.ears_laws.proofs.AsOne.{Halved, on_verdict, verdict_on, by_verdict, whole_framed, other_framed, keeps}
 

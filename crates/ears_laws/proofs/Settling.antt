@@ -23,7 +23,7 @@ use Rattle.settling_laws.specs.Calls as one
 use Rattle.settling_laws.proofs.FitStates.{started_fit}
 use Rattle.settling_laws.proofs.Following.{reports_mark, answer_small}
 use Rattle.settling_laws.proofs.SettledExactly.{run_within_limit, marked_exactly}
-use Rattle.ears_laws.specs.Calls.{Headset, WhichEar, left_ear, right_ear, own, Arrays, Call, start, loss, frame, with_own, after, after_all, if_own, reply_to, replies_to, EarGiven, given_to, calls_of, ear_framed_by, events_to, EarsSettleAlike, ear}
+use Rattle.ears_laws.specs.Calls.{Headset, WhichEar, left_ear, right_ear, own, Arrays, Call, start, loss, frame, with_own, after, after_all, if_own, reply_to, replies_to, EarGiven, given_to, calls_of, ear_framed_by, events_to, EarsSettleAlike}
 use Rattle.ears_laws.specs.Listeners.{ear_of}
 use Rattle.ears_laws.proofs.AnyTwo.{any_two_agree}
 use Rattle.ears_laws.proofs.AsOne.{Halved, refusal_fit, whole, as_one, on_verdict, verdict_on, by_verdict, whole_framed, other_framed}

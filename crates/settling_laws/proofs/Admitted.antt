@@ -14,7 +14,7 @@ use Rattle.rates.specs.declared.config.Lc3Config.{Lc3Config}
 use Rattle.rates.proofs.Known.{both}
 use Rattle.lag.specs.declared.gain.Gain.{Gain}
 use Rattle.lag.specs.declared.rescale.Lag.{Lag}
-use Rattle.filter.specs.Transition.{transition_of, outputs}
+use Rattle.filter.specs.Transition.{transition_of}
 use Rattle.filter.proofs.OutputsLong.{outputs_long}
 use Rattle.control.specs.State.{no_lag, lag_fits}
 use Rattle.control.specs.Next.{next_marks}

@@ -33,7 +33,7 @@ use Rattle.rings.specs.Samples.{filtered}
 use Rattle.decoder.specs.Frame.{accepted}
 use Rattle.decoder.specs.declared.state.Decoder.{Decoder}
 use Rattle.on_ring.proofs.RingFits.{first_block}
-use Rattle.settling_laws.specs.Calls.{frame, FitState}
+use Rattle.settling_laws.specs.Calls.{FitState}
 use Rattle.settling_laws.proofs.Held.{held, past_x, past_y}
 use Rattle.settling_laws.proofs.Admitted.{admit, past_y_next}
 use Rattle.settling_laws.proofs.Hearing.{quieted, quiet_frame}

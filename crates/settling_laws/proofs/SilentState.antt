@@ -17,7 +17,6 @@ use Rattle.lag.specs.declared.gain.Gain.{Gain}
 use Rattle.lag.specs.declared.gain.Gain.TheVariants.{Off, On}
 use Rattle.coefficients.specs.Coefficients.{gain_value, filter_of, new_filter}
 use Rattle.filter.specs.Fade.{factor, faded}
-use Rattle.filter.specs.Transition.{outputs}
 use Rattle.filter.specs.declared.fade.Direction.TheVariants.{In}
 use Rattle.control.specs.State.{cleared_marks}
 use Rattle.control.proofs.Sizes.{FromTable, from_table, sized}

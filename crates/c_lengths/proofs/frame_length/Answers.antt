@@ -1,6 +1,5 @@
 -- `frame_length` takes the length from the configuration, as the definition does.
 use mathlib.Core.Path.{sym, ◌∙◌}
-use borrow.Author.Rules.{rules}
 use Rattle.c_lengths.proofs.frame_length.Goals as goal
 
 pub returns-in-Config : goal.returns-in-Config

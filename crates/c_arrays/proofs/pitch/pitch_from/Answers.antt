@@ -1,6 +1,5 @@
 -- `pitch_from`: two flags and an index.
 use mathlib.Core.Path.{sym, ◌∙◌}
-use borrow.Author.Rules.{rules}
 use Rattle.c_arrays.proofs.pitch.pitch_from.Goals as goal
 
 pub returns-then-is_yes : goal.returns-then-is_yes

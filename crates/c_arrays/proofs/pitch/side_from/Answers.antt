@@ -1,5 +1,4 @@
 -- `side_from`: a pitch, and the bits beside it.
-use borrow.Author.Rules.{rules}
 use Rattle.c_arrays.specs.Pitch.{side_from}
 use Rattle.c_arrays.proofs.pitch.side_from.Goals as goal
 

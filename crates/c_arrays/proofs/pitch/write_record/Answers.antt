@@ -1,6 +1,5 @@
 -- `write_record` goes by what of a pitch is sent.
 use mathlib.Core.Path.{sym, ◌∙◌}
-use borrow.Author.Rules.{rules}
 use Rattle.c_arrays.proofs.pitch.write_record.Goals as goal
 
 pub returns-in-Absent : goal.returns-in-Absent

@@ -1,5 +1,4 @@
 -- `write_numbers` writes eight numbers.
-use borrow.Author.Rules.{rules}
 use Rattle.c_arrays.specs.Registers.{numbers_by}
 use Rattle.c_arrays.proofs.registers.write_numbers.Goals as goal
 

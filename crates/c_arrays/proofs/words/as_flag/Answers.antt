@@ -2,7 +2,6 @@
 use mathlib.Core.Path.{◌≡◌, refl}
 use mathlib.Core.Bool.{Bool, true, false}
 use mir.Val.{bool_byte}
-use borrow.Author.Rules.{rules}
 use Rattle.c_arrays.specs.Words.{as_flag}
 use Rattle.c_arrays.proofs.words.as_flag.Goals as goal
 

@@ -23,7 +23,7 @@ returns-in_default-look_up_lag c =
 pub overflow_cast-result : goal.overflow_cast-result
 overflow_cast-result c =
     let narrow : Narrow c.in-Lag.found.lag =
-        let a = c.args in
+    let a = c.args in
     looked_up_narrow a.rate c.in-Row.fs (sym c.row_of.ensures ∙ c.in-Row.is)
     a.index c.in-Lag.found (sym c.look_up_lag.ensures ∙ c.in-Lag.is) in
     record { fits = narrow.whole }
@@ -31,7 +31,7 @@ overflow_cast-result c =
 pub overflow_cast-result-2 : goal.overflow_cast-result-2
 overflow_cast-result-2 c =
     let narrow : Narrow c.in-Lag.found.lag =
-        let a = c.args in
+    let a = c.args in
     looked_up_narrow a.rate c.in-Row.fs (sym c.row_of.ensures ∙ c.in-Row.is)
     a.index c.in-Lag.found (sym c.look_up_lag.ensures ∙ c.in-Lag.is) in
     record { fits = narrow.quarter }

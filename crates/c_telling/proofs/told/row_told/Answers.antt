@@ -1,8 +1,5 @@
 -- `row_told`: a row only of an active frame whose gain is on.
 use native.Mathlib.Omega.{arith}
-use borrow.Author.Tests.{not-true, not-false}
-use Rattle.coefficients.specs.Coefficients.{gain_row}
-use borrow.Author.Rules.{rules}
 use Rattle.c_telling.proofs.told.row_told.Goals as goal
 
 pub returns-then-not-active : goal.returns-then-not-active

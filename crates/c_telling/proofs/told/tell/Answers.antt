@@ -3,7 +3,6 @@ use mathlib.Core.Path.{sym, ap, ◌∙◌}
 use Rattle.telling.specs.Told.{judged_fitted}
 use Rattle.c_telling.specs.Tellings.{told_for}
 use Rattle.c_telling.proofs.Narrow.{plan_small}
-use borrow.Author.Rules.{rules}
 use Rattle.c_telling.proofs.told.tell.Goals as goal
 
 pub returns-in-Refused : goal.returns-in-Refused

@@ -1,6 +1,5 @@
 -- `frame` takes the state apart for `frame_in_place`, and puts it together again.
 use Rattle.decoder.proofs.Apart.{reported, put_together}
-use borrow.Author.Rules.{rules}
 use Rattle.decoder.proofs.frame.frame.Goals as goal
 
 pub returns : goal.returns

@@ -19,15 +19,14 @@ unfolding framed judged
 returns-in-Refused c = rw (← c.fit_ring.ensures, c.in-Refused.is)
 
 pub carry_out-requires : goal.carry_out-requires
-carry_out-requires c =
-    (
-      record {
-        side = c.args.side;
-        verdict = rw (← c.fit_ring.ensures, c.in-Config.is) (sym c.judge.ensures ∙ c.in-Accepted.is);
-      },
-      search rules,
-      search rules,
-    )
+carry_out-requires c = (
+  record {
+    side = c.args.side;
+    verdict = rw (← c.fit_ring.ensures, c.in-Config.is) (sym c.judge.ensures ∙ c.in-Accepted.is);
+  },
+  search rules,
+  search rules,
+)
 
 pub returns-in-Refused-judge : goal.returns-in-Refused-judge
 unfolding framed

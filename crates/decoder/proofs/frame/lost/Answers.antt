@@ -1,6 +1,5 @@
 -- `lost` takes the state apart for `lost_in_place`, and puts it together again.
 use Rattle.decoder.proofs.Apart.{lost_without_arrays}
-use borrow.Author.Rules.{rules}
 use Rattle.decoder.proofs.frame.lost.Goals as goal
 
 pub returns : goal.returns

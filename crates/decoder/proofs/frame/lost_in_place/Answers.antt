@@ -1,6 +1,5 @@
 -- `lost_in_place` unsettles fit registers.
 use Rattle.decoder.specs.Frame.{lost_from}
-use borrow.Author.Rules.{rules}
 use Rattle.decoder.proofs.frame.lost_in_place.Goals as goal
 
 pub returns-in-Refused : goal.returns-in-Refused

@@ -1,7 +1,6 @@
 -- `cleared`: each constant is the definition's.
 use lib.Ieee.{of_bits}
 use Rattle.decoder.specs.State.{cleared}
-use borrow.Author.Rules.{rules}
 use Rattle.decoder.proofs.state.cleared.Goals as goal
 
 pub returns : goal.returns

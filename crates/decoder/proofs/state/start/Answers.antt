@@ -1,5 +1,4 @@
 -- `start` goes by the configuration.
-use borrow.Author.Rules.{rules}
 use Rattle.decoder.proofs.state.start.Goals as goal
 
 pub returns-in-Config : goal.returns-in-Config

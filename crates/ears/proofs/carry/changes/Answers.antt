@@ -3,12 +3,10 @@ use Prim.Native.Nat.{ℕ}
 use mathlib.Core.Path.{◌≡◌}
 use mathlib.Core.Bool.{true≢false}
 use native.Mathlib.Omega.{arith}
-use borrow.Author.Rules.{rules}
 use Rattle.ears.proofs.carry.changes.Goals as goal
 
 pub returns-in-Inactive : goal.returns-in-Inactive
 returns-in-Inactive c quiet plan e =
-    
     let same : plan ≡ c.in-Accepted.plan = cc c.in-Accepted.is in
     rw same c.in-Inactive.is
 

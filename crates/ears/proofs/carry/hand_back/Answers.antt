@@ -5,7 +5,6 @@ use native.Mathlib.Omega.{arith}
 use lib.ListN.{length}
 use Rattle.interleave.proofs.Buffers.{turned}
 use Rattle.ears.proofs.Aside.{neither, unchanged}
-use borrow.Author.Rules.{rules}
 use Rattle.ears.proofs.carry.hand_back.Goals as goal
 
 pub returns-then-not-changes : goal.returns-then-not-changes

@@ -3,7 +3,6 @@ use mathlib.Core.Path.{◌∙◌, ap}
 use Rattle.interleave.specs.Turns.{in_turn}
 use Rattle.interleave.proofs.Buffers.{halves}
 use Rattle.ears.proofs.Aside.{aside}
-use borrow.Author.Rules.{rules}
 use Rattle.ears.proofs.carry.put_left.Goals as goal
 
 pub returns : goal.returns

@@ -4,7 +4,6 @@ use lib.ListN.{take, drop}
 use Rattle.interleave.specs.Turns.{in_turn}
 use Rattle.interleave.proofs.Buffers.{halves}
 use Rattle.ears.proofs.Aside.{aside}
-use borrow.Author.Rules.{rules}
 use Rattle.ears.proofs.carry.put_right.Goals as goal
 
 pub returns : goal.returns

@@ -6,7 +6,6 @@ use Rattle.ears.specs.InPlace.{state_of}
 use Rattle.interleave.specs.Turns.{lefts, rights}
 use Rattle.interleave.proofs.Buffers.{halves}
 use Rattle.ears.proofs.Steps.{room, steppable, still, ear_apart, both_apart_lem}
-use borrow.Author.Rules.{rules}
 use Rattle.ears.proofs.frame.frame_both.Goals as goal
 
 pub take_up-requires : goal.take_up-requires

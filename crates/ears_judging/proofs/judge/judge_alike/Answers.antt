@@ -1,6 +1,5 @@
 -- `judge_alike` judges what the ears share once, unless both are unfit.
 use Rattle.control.proofs.Tested.{failed}
-use borrow.Author.Rules.{rules}
 use Rattle.ears_judging.proofs.judge.judge_alike.Goals as goal
 
 pub returns-then-not-right_fits : goal.returns-then-not-right_fits

@@ -4,7 +4,6 @@ use native.Mathlib.Omega.{arith}
 use Rattle.control.proofs.Sizes.{from_table, sized}
 use Rattle.control.proofs.Tested.{failed, passed}
 use Rattle.ears_judging.proofs.Verdicts.{both_unnamed, both_alike}
-use borrow.Author.Rules.{rules}
 use Rattle.ears_judging.proofs.judge.judge_both.Goals as goal
 
 pub returns-then-not-named_alike : goal.returns-then-not-named_alike

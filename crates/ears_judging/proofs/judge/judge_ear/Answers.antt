@@ -1,5 +1,4 @@
 -- `judge_ear` goes by fitness, and then by what is lent.
-use borrow.Author.Rules.{rules}
 use Rattle.ears_judging.proofs.judge.judge_ear.Goals as goal
 
 pub returns-then-not-fits : goal.returns-then-not-fits

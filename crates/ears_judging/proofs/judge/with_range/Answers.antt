@@ -1,5 +1,4 @@
 -- `with_range` goes by the verdict, and then by the range.
-use borrow.Author.Rules.{rules}
 use Rattle.ears_judging.proofs.judge.with_range.Goals as goal
 
 pub returns-then-inside : goal.returns-then-inside

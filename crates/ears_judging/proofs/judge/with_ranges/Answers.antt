@@ -1,5 +1,4 @@
 -- `with_ranges` ranges both verdicts, unless both are refusals already.
-use borrow.Author.Rules.{rules}
 use Rattle.ears_judging.proofs.judge.with_ranges.Goals as goal
 
 pub returns-in-Refused-right : goal.returns-in-Refused-right

@@ -3,7 +3,6 @@ use mathlib.Core.Path.{◌≡◌}
 use Rattle.floats.specs.Single.{all_in_range}
 use Rattle.control.proofs.Tested.{failed, passed}
 use Rattle.judging.proofs.LentFirst.{judged_lent}
-use borrow.Author.Rules.{rules}
 use Rattle.judging.proofs.judge.judge.Goals as goal
 
 pub returns-in-Refused : goal.returns-in-Refused

@@ -2,7 +2,6 @@
 use borrow.Author.Tests.{eq-eqb, ne_eqb}
 use Rattle.control.proofs.Tested.{failed, passed}
 use Rattle.judging.specs.Lent.{lent_of}
-use borrow.Author.Rules.{rules}
 use Rattle.judging.proofs.judge.judge_lent.Goals as goal
 
 pub returns-then-not-set_counts : goal.returns-then-not-set_counts

@@ -1,5 +1,4 @@
 -- `lag_for` goes by what of the record is sent, and by what its index gives.
-use borrow.Author.Rules.{rules}
 use Rattle.judging.proofs.pitch.lag_for.Goals as goal
 
 pub returns-in_default : goal.returns-in_default

@@ -1,7 +1,6 @@
 -- `judge_side` makes the definition's tests in their order.
 use borrow.Author.Tests.{le-leb, lt-leb}
 use Rattle.judging.specs.Judge.{judged_side}
-use borrow.Author.Rules.{rules}
 use Rattle.judging.proofs.plan.judge_side.Goals as goal
 
 pub returns-then-side-gt3200 : goal.returns-then-side-gt3200

@@ -1,5 +1,4 @@
 -- `plan_of`: each part is the definition's.
-use borrow.Author.Rules.{rules}
 use Rattle.judging.proofs.plan.plan_of.Goals as goal
 
 pub returns : goal.returns

@@ -1,5 +1,4 @@
 -- `evaluations` goes by the case.
-use borrow.Author.Rules.{rules}
 use Rattle.judging.proofs.products.evaluations.Goals as goal
 
 pub returns-in-ActivePitchChanged : goal.returns-in-ActivePitchChanged

@@ -5,12 +5,11 @@ use borrow.Author.Rules.{rules}
 use Rattle.on_ring.proofs.planned.filter_active.Goals as goal
 
 pub filter_block-requires : goal.filter_block-requires
-filter_block-requires c =
-    (
-      rw (c.compute_filter_coeffs-new.ensures c.args.plan.lag refl, read_new c.args.plan c.args.numerators.now c.args.denominators.now c.requires.rows.most c.requires.lagless) c.requires.filterable,
-      search rules,
-      search rules,
-    )
+filter_block-requires c = (
+  rw (c.compute_filter_coeffs-new.ensures c.args.plan.lag refl, read_new c.args.plan c.args.numerators.now c.args.denominators.now c.requires.rows.most c.requires.lagless) c.requires.filterable,
+  search rules,
+  search rules,
+)
 
 pub returns : goal.returns
 returns c =

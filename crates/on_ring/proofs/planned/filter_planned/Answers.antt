@@ -7,7 +7,6 @@ use Rattle.slices.proofs.Stored.{placed_stored}
 use Rattle.rings.specs.Samples.{block_at}
 use Rattle.rings.proofs.StraightLines.{frame_long, untouched}
 use Rattle.on_ring.proofs.NewFilter.{no_filter_lem}
-use borrow.Author.Rules.{rules}
 use Rattle.on_ring.proofs.planned.filter_planned.Goals as goal
 
 pub returns-in-Inactive : goal.returns-in-Inactive

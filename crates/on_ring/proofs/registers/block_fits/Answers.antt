@@ -1,7 +1,6 @@
 -- `block_fits` makes the definition's two tests.
 use borrow.Author.Tests.{lt-ltb, le-ltb}
 use Rattle.on_ring.specs.Registers.{block_fits}
-use borrow.Author.Rules.{rules}
 use Rattle.on_ring.proofs.registers.block_fits.Goals as goal
 
 pub returns-then-start-config : goal.returns-then-start-config

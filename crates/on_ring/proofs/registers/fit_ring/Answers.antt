@@ -2,7 +2,6 @@
 use mathlib.Core.Path.{sym, ◌∙◌}
 use Rattle.control.proofs.Tested.{failed, passed}
 use Rattle.control.proofs.Sizes.{from_table, sized}
-use borrow.Author.Rules.{rules}
 use Rattle.on_ring.proofs.registers.fit_ring.Goals as goal
 
 pub returns-in_default : goal.returns-in_default

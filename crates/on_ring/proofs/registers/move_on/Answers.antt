@@ -1,5 +1,4 @@
 -- `move_on`: the marks and the block start are the definition's.
-use borrow.Author.Rules.{rules}
 use Rattle.on_ring.proofs.registers.move_on.Goals as goal
 
 pub returns : goal.returns

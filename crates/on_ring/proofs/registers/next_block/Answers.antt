@@ -1,6 +1,5 @@
 -- `next_block` follows the definition's test.
 use borrow.Author.Tests.{eq-eqb, ne_eqb}
-use borrow.Author.Rules.{rules}
 use Rattle.on_ring.proofs.registers.next_block.Goals as goal
 
 pub returns-then-next-history : goal.returns-then-next-history

@@ -1,6 +1,5 @@
 -- `ring_fits` tests the marks, and then the block start.
 use Rattle.control.proofs.Tested.{failed, passed}
-use borrow.Author.Rules.{rules}
 use Rattle.on_ring.proofs.registers.ring_fits.Goals as goal
 
 pub returns-then-not-fits : goal.returns-then-not-fits

@@ -11,7 +11,7 @@ use Rattle.telling.proofs.rounding.rounding_for.Goals as goal
 pub returns-then-not-present : goal.returns-then-not-present
 returns-then-not-present c =
     let sent_present : sent_of c.args.pitch ≡ Present c.in-Present.present =
-        sym c.sent_of.ensures ∙ c.in-Present.is in
+    sym c.sent_of.ensures ∙ c.in-Present.is in
     rw (sent_present, not-true c.in-Present.present.active c.if-not-present.true)
 
 pub returns-in-Absent : goal.returns-in-Absent
@@ -20,7 +20,7 @@ returns-in-Absent c = rw (← c.sent_of.ensures, c.in-Absent.is)
 pub returns-in-Lag : goal.returns-in-Lag
 returns-in-Lag c =
     let sent_present : sent_of c.args.pitch ≡ Present c.in-Present.present =
-        sym c.sent_of.ensures ∙ c.in-Present.is in
+    sym c.sent_of.ensures ∙ c.in-Present.is in
     rw (
       sent_present,
       not-false c.in-Present.present.active c.if-not-present.false,
@@ -32,7 +32,7 @@ returns-in-Lag c =
 pub returns-in-IndexTooLarge : goal.returns-in-IndexTooLarge
 returns-in-IndexTooLarge c =
     let sent_present : sent_of c.args.pitch ≡ Present c.in-Present.present =
-        sym c.sent_of.ensures ∙ c.in-Present.is in
+    sym c.sent_of.ensures ∙ c.in-Present.is in
     rw (
       sent_present,
       not-false c.in-Present.present.active c.if-not-present.false,

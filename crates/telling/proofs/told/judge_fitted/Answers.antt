@@ -1,5 +1,4 @@
 -- `judge_fitted` goes by fitness.
-use borrow.Author.Rules.{rules}
 use Rattle.telling.proofs.told.judge_fitted.Goals as goal
 
 pub returns-in-Config : goal.returns-in-Config

@@ -1,5 +1,4 @@
 -- `told_of` takes the rounding from `rounding_for`.
-use borrow.Author.Rules.{rules}
 use Rattle.telling.proofs.told.told_of.Goals as goal
 
 pub returns : goal.returns
