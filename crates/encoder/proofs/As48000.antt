@@ -15,7 +15,6 @@ use Rattle.rates.specs.Durations.{duration_of}
 use Rattle.rates.specs.Configs.{configured, config_of}
 use Rattle.rates.specs.declared.answer.Answer.TheVariants.{CoefficientCount, CoefficientNotFinite, SampleCount, TooManyBits}
 use Rattle.rates.specs.declared.duration.FoundDuration.{FoundDuration}
-use Rattle.rates.specs.declared.config.Lc3Config.{Lc3Config}
 use Rattle.rates.specs.declared.config.Configured.{Configured}
 use Rattle.rates.specs.declared.config.Configured.TheVariants.{Config, Refused}
 use Rattle.rates.proofs.Renaming.{Like48000, config_as, configured_as, test_as, like_44100, like_48000}

@@ -1,30 +1,22 @@
--- Laws of a loop whose variable is signed and runs from -(a + 1) to a + 1: its bits m count the turns that it has passed, of 2 · a + 3.
-use Prim.Native.Nat.{ℕ, zero, suc, ◌+◌, ◌-◌, ◌*◌, ◌%◌, ◌^◌, ◌≤◌, ◌<◌}
-use mathlib.Core.Path.{◌≡◌, refl, sym, ◌∙◌, ap}
+-- Laws of a loop whose variable is signed and runs from -(a + 1) to a + 1: the variable z counts the turns that it has passed, of 2 · a + 3.
+use Prim.Native.Nat.{ℕ, zero, suc, ◌+◌, ◌-◌, ◌*◌, ◌≤◌, ◌<◌}
+use mathlib.Core.Path.{◌≡◌, refl, sym, subst, ◌∙◌, ap}
 use mathlib.Core.Bool.{Bool, true, false, true≢false, cond, ◌&&◌}
 use native.Mathlib.Omega.{arith}
+use Rattle.std.proofs.lemmas.Int.{ints}
 use borrow.Author.Tests.{ltb-true, ltb-false, leb-true, leb-false, le-ltb}
 use lib.Dec.{T, ltb}
-use lib.IntN.{ℤ, pos, negsuc, neg_ℤ, sub_ℕ, ◌+ℤ◌}
+use lib.IntN.{ℤ, pos, negsuc, neg_ℤ, nat_abs, sub_ℕ, ◌+ℤ◌}
 use lib.Signed.{mag, non_neg, le_z}
 use mir.Syntax.{w32}
 use mir.Val.{SFits, to_z, of_z}
-use mir.ValLaws.{to_z_pos, to_z-neg}
+use mir.ValLaws.{to_z-of_z}
 use Rattle.found.specs.Taps.{turn, inside, moved}
 use Rattle.found.proofs.Signs.{small, mag_sum}
 
--- how many turns a loop from -a has passed, by its variable's bits
-abbrev pub passed : ℕ → ℕ → ℕ
-passed a m = (m + a) % 2 ^ 32
-
--- one more is the next bits
-next_bits : (m : ℕ) → m < 2 ^ 32 → of_z w32 (to_z w32 m +ℤ pos 1) ≡ (m + 1) % 2 ^ 32
-next_bits m u = go (ltb m (2 ^ 31)) (ltb 1 (suc (2 ^ 32 - suc m))) refl refl
-  where
-    go : (s t : Bool) → ltb m (2 ^ 31) ≡ s → ltb 1 (suc (2 ^ 32 - suc m)) ≡ t → of_z w32 (to_z w32 m +ℤ pos 1) ≡ (m + 1) % 2 ^ 32
-    go true t p q = rw p (omega (arith, ltb-true m (2 ^ 31) p))
-    go false true p q = rw (p, q) (omega (arith, ltb-true 1 (suc (2 ^ 32 - suc m)) q))
-    go false false p q = rw (p, q) (omega (arith, ltb-false 1 (suc (2 ^ 32 - suc m)) q))
+-- how many turns a loop from -a has passed, by its variable
+abbrev pub passed : ℕ → ℤ → ℕ
+passed a z = nat_abs (z +ℤ pos a)
 
 -- what holds of a turn's number holds where it is negative and where it is not
 by_sign : (a j : ℕ) (P : ℤ → Type 0) → (j < suc a → P (negsuc (suc a - suc j))) → (suc a ≤ j → P (pos (j - suc a))) → P (turn (suc a) j)
@@ -38,44 +30,56 @@ by_sign a j P f g = go (ltb j (suc a)) refl
 pub mag_turn : (a j : ℕ) → j ≤ 2 * suc a → mag (turn (suc a) j) ≤ suc a
 mag_turn a j h = by_sign a j (λ z. mag z ≤ suc a) (λ u. omega arith) (λ u. omega arith)
 
--- what is known in a turn: the variable's number and size, how many turns are over, and the step to the next turn
-pub record Turn (a m : ℕ) : Type 0 where
-  pub number : to_z w32 m ≡ turn (suc a) (passed (suc a) m)
-  pub over : passed (suc a) m ≤ 2 * suc a
-  pub size : mag (to_z w32 m) ≤ suc a
-  pub fits : SFits w32 (to_z w32 m +ℤ pos 1)
-  pub bits : of_z w32 (to_z w32 m +ℤ pos 1) < 2 ^ 32
-  pub next : passed (suc a) (of_z w32 (to_z w32 m +ℤ pos 1)) ≡ suc (passed (suc a) m)
+-- the number of a turn tells the turn, and one more is the next turn's
+pub passed_turn : (a j : ℕ) → passed a (turn a j) ≡ j
+passed_turn a j = let e : turn a j +ℤ pos a ≡ pos j = omega (arith, ints) in ap nat_abs e
 
-module _ (a m : ℕ) (few : a ≤ 100) (bits : m < 2 ^ 32) (within : passed (suc a) m ≤ suc (2 * suc a)) where
-  -- the variable is the turn's number
-  turn_of : to_z w32 m ≡ turn (suc a) (passed (suc a) m)
-  turn_of =
-      by_sign a (passed (suc a) m) (λ z. to_z w32 m ≡ z)
-      (λ h. let e : m ≡ 2 ^ 32 - suc (suc a - suc (passed (suc a) m)) = omega arith in ap (to_z w32) e ∙ to_z-neg w32 (suc a - suc (passed (suc a) m)) (omega arith))
-      (λ h. let e : m ≡ passed (suc a) m - suc a = omega arith in ap (to_z w32) e ∙ to_z_pos w32 (passed (suc a) m - suc a) (omega arith))
+turn_more : (a j : ℕ) → turn a j +ℤ pos 1 ≡ turn a (suc j)
+turn_more a j = omega (arith, ints)
 
+-- what is known in a turn: the variable's number and size, how many turns are over, and the step to the next turn, as the machine reads it back
+pub record Turn (a : ℕ) (z : ℤ) : Type 0 where
+  pub number : z ≡ turn (suc a) (passed (suc a) z)
+  pub over : passed (suc a) z ≤ 2 * suc a
+  pub size : mag z ≤ suc a
+  pub fits : SFits w32 (z +ℤ pos 1)
+  pub again : to_z w32 (of_z w32 (z +ℤ pos 1)) ≡ turn (suc a) (passed (suc a) (to_z w32 (of_z w32 (z +ℤ pos 1))))
+  pub next : passed (suc a) (to_z w32 (of_z w32 (z +ℤ pos 1))) ≡ suc (passed (suc a) z)
+
+module _ (a : ℕ) (z : ℤ) (few : a ≤ 100) (number : z ≡ turn (suc a) (passed (suc a) z)) (within : passed (suc a) z ≤ suc (2 * suc a)) where
   -- in a turn
-  pub in_turn_lem : le_z (to_z w32 m) (pos (suc a)) ≡ true → Turn a m
-  in_turn_lem test = record { number = turn_of; over = over; size = size; fits = small _ (omega (arith, size, mag_sum (to_z w32 m) (pos 1))); bits = rw (next_bits m bits) (omega arith); next = rw (next_bits m bits) (omega (arith, over)) }
+  pub in_turn_lem : le_z z (pos (suc a)) ≡ true → Turn a z
+  in_turn_lem test = record { number = number; over = over; size = size; fits = fits; again = rw back (rw next more); next = rw back next }
     where
-      over : passed (suc a) m ≤ 2 * suc a
+      over : passed (suc a) z ≤ 2 * suc a
       over =
-          by_sign a (passed (suc a) m) (λ z. le_z z (pos (suc a)) ≡ true → passed (suc a) m ≤ 2 * suc a)
+          by_sign a (passed (suc a) z) (λ y. le_z y (pos (suc a)) ≡ true → passed (suc a) z ≤ 2 * suc a)
           (λ h t. omega arith)
-          (λ h t. omega (arith, leb-true (passed (suc a) m - suc a) (suc a) t))
-          (rw turn_of at test)
+          (λ h t. omega (arith, leb-true (passed (suc a) z - suc a) (suc a) t))
+          (subst (λ (y : ℤ). le_z y (pos (suc a)) ≡ true) number test)
 
-      size : mag (to_z w32 m) ≤ suc a
-      size = rw turn_of (mag_turn a (passed (suc a) m) over)
+      size : mag z ≤ suc a
+      size = subst (λ (y : ℤ). mag y ≤ suc a) (sym number) (mag_turn a (passed (suc a) z) over)
+
+      fits : SFits w32 (z +ℤ pos 1)
+      fits = small _ (omega (arith, size, mag_sum z (pos 1)))
+
+      back : to_z w32 (of_z w32 (z +ℤ pos 1)) ≡ z +ℤ pos 1
+      back = to_z-of_z w32 (z +ℤ pos 1) fits
+
+      more : z +ℤ pos 1 ≡ turn (suc a) (suc (passed (suc a) z))
+      more = ap (λ (y : ℤ). y +ℤ pos 1) number ∙ turn_more (suc a) (passed (suc a) z)
+
+      next : passed (suc a) (z +ℤ pos 1) ≡ suc (passed (suc a) z)
+      next = ap (passed (suc a)) more ∙ passed_turn (suc a) (suc (passed (suc a) z))
 
   -- after the last turn
-  pub all_turns : le_z (to_z w32 m) (pos (suc a)) ≡ false → passed (suc a) m ≡ suc (2 * suc a)
+  pub all_turns : le_z z (pos (suc a)) ≡ false → passed (suc a) z ≡ suc (2 * suc a)
   all_turns test =
-      by_sign a (passed (suc a) m) (λ z. le_z z (pos (suc a)) ≡ false → passed (suc a) m ≡ suc (2 * suc a))
+      by_sign a (passed (suc a) z) (λ y. le_z y (pos (suc a)) ≡ false → passed (suc a) z ≡ suc (2 * suc a))
       (λ h t. absurd (true≢false t))
-      (λ h t. omega (arith, leb-false (passed (suc a) m - suc a) (suc a) t))
-      (rw turn_of at test)
+      (λ h t. omega (arith, leb-false (passed (suc a) z - suc a) (suc a) t))
+      (subst (λ (y : ℤ). le_z y (pos (suc a)) ≡ false) number test)
 
 -- a position moved by a turn's number
 pub moved_turn : (i a j : ℕ) → suc a ≤ i → (T (non_neg (pos i +ℤ turn (suc a) j))) × (moved i (turn (suc a) j) ≡ i + j - suc a)

@@ -64,6 +64,7 @@ fn interpolate(r_12p8: &[f32], entry: usize, d: i32, interpolation: &[f32]) -> f
 
 // Whether a fraction is looked at beside this whole lag: all below 127, but none below 0 at 32;
 // halves up to 156, and none above.
+#[tactic(auto, unfolding(crate::specs::LagParameter::looked_at), using(crate::proofs::Signs::even_bits))]
 fn is_looked_at(pitch_int: usize, d: i32) -> bool
     ensures { result ≡ looked_at pitch_int d }
 {

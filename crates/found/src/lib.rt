@@ -70,6 +70,7 @@ fn is_ten_ms(n_ms: FrameDuration) -> bool
 }
 
 // Whether a pitch is present, with a lag of 17 to 114, and the two tables have their lengths.
+#[tactic(auto, unfolding(crate::specs::Found::ready))]
 fn is_ready(d: Detected, correlation: &[f32], signal: &[f32]) -> bool
     ensures { result ≡ ready d correlation.now signal.now }
 {

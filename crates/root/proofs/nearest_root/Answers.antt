@@ -12,6 +12,9 @@ use Rattle.root.proofs.nearest_root.Goals as goal
 unshifted : (a m k : ℕ) → Normalised a m k → scaled m k % 2 ^ 64 ≡ scaled m k
 unshifted a m k norm = mod-eq_of_lt (omega (arith, scaled_range a m k norm))
 
+shifted : (a m k : ℕ) → Normalised a m k → scaled m k % 2 ^ 64 < 2 ^ 48
+shifted a m k norm = rw (unshifted a m k norm) (scaled_range a m k norm).1
+
 whole : (a m k q : ℕ) → Normalised a m k → WholeRoot (scaled m k % 2 ^ 64) q → WholeRoot (scaled m k) q
 whole a m k q norm w = rw (← unshifted a m k norm) w
 
@@ -19,9 +22,7 @@ range : (a m k q : ℕ) → Normalised a m k → WholeRoot (scaled m k % 2 ^ 64)
 range a m k q norm w = root_range (scaled m k) q (scaled_range a m k norm).0 (scaled_range a m k norm).1 (whole a m k q norm w)
 
 pub whole_root-q-requires : goal.whole_root-q-requires
-whole_root-q-requires c =
-    let s = c.normalised-s in
-    rw (unshifted _ s.result.significand s.result.exponent s.ensures) (scaled_range _ s.result.significand s.result.exponent s.ensures).1
+whole_root-q-requires c = shifted _ c.normalised-s.result.significand c.normalised-s.result.exponent c.normalised-s.ensures
 
 pub overflow_cast-below : goal.overflow_cast-below
 overflow_cast-below c =

@@ -2,7 +2,6 @@
 use mathlib.Core.Path.{◌≡◌, sym, ◌∙◌}
 use mathlib.Core.Bool.{true}
 use borrow.Author.Rules.{rules}
-use borrow.Author.Tests.{not-true, not-false}
 use Rattle.rates.proofs.Sizes.{Sized, sized}
 use Rattle.lanes.specs.Sums.{window}
 use Rattle.slices.specs.Written.{written}
@@ -16,7 +15,7 @@ unfolding made12p8 left12p8 resampled_into
 returns-then-not-resample c =
     let past_in : let a = c.args in
     c.put.new.into ≡ written a.y.now 0 (window a.past.now 0) 276 =
-        let a = c.args in
+    let a = c.args in
     c.put.ensures ∙ front a.y.now a.past.now 276 (search rules) (search rules) in
     let no = sym c.resample.ensures.done ∙ c.if-not-resample.true in
     record { after = rw no; signal = rw (c.resample.ensures.signal, no) past_in }
@@ -24,7 +23,7 @@ returns-then-not-resample c =
 pub high_pass-requires : goal.high_pass-requires
 high_pass-requires c =
     let sizes : Sized c.lengths_of-l.result =
-        rw c.lengths_of-l.ensures (sized c.args.n_ms) in
+    rw c.lengths_of-l.ensures (sized c.args.n_ms) in
     sizes.new.0
 
 pub returns : goal.returns
@@ -32,11 +31,11 @@ unfolding made12p8 left12p8 resampled_into
 returns c =
     let past_in : let a = c.args in
     c.put.new.into ≡ written a.y.now 0 (window a.past.now 0) 276 =
-        let a = c.args in
+    let a = c.args in
     c.put.ensures ∙ front a.y.now a.past.now 276 (search rules) (search rules) in
     let yes : let a = c.args in
     usable a.filter.now a.p ≡ true =
-        sym c.resample.ensures.done ∙ c.if-not-resample.false in
+    sym c.resample.ensures.done ∙ c.if-not-resample.false in
     record {
       after = rw (c.high_pass.ensures.after, c.resample.ensures.signal, yes, c.lengths_of-l.ensures, past_in);
       signal = rw (c.high_pass.ensures.signal, c.resample.ensures.signal, yes, c.lengths_of-l.ensures, past_in);

@@ -8,7 +8,7 @@ use Rattle.signals.proofs.at_6p4.Goals as goal
 pub halve-requires : goal.halve-requires
 halve-requires c =
     let sizes : Sized c.lengths_of-l.result =
-        rw c.lengths_of-l.ensures (sized c.args.n_ms) in
+    rw c.lengths_of-l.ensures (sized c.args.n_ms) in
     omega (arith, sizes)
 
 pub returns : goal.returns

@@ -1,7 +1,6 @@
 -- `five_taps` computes the definition, in its order.
 use lib.Ieee.{round, of_bits}
 use mathlib.Core.Path.{refl}
-use borrow.Author.Rules.{rules}
 use Rattle.signals.specs.Halving.{five_taps}
 use Rattle.signals.proofs.halving.five_taps.Goals as goal
 

@@ -1,9 +1,6 @@
 -- `halve` writes one sample a turn.
 use Prim.Native.Nat.{◌≤◌, ◌-◌}
 use mathlib.Core.Path.{◌≡◌}
-use native.Mathlib.Numerals.{add-one}
-use native.Mathlib.Omega.{arith}
-use borrow.Author.Rules.{rules}
 use Rattle.slices.specs.Written.{written}
 use Rattle.signals.specs.Halving.{halved}
 use Rattle.signals.proofs.halving.halve.Given as goal

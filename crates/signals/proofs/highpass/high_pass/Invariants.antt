@@ -1,16 +1,11 @@
 -- `high_pass` filters one sample a turn: the samples ahead are still those that came in.
-use Prim.Native.Nat.{◌+◌, ◌-◌, ◌≤◌}
+use Prim.Native.Nat.{◌-◌, ◌≤◌}
 use mathlib.Core.Path.{◌≡◌}
-use native.Mathlib.Numerals.{add-one}
-use native.Mathlib.Omega.{arith}
-use borrow.Author.Rules.{rules}
-use lib.Ieee.{Float, round, of_bits}
-use Rattle.floats.specs.Single.{at}
+use lib.Ieee.{Float}
 use Rattle.lanes.specs.Sums.{window}
 use Rattle.slices.specs.Written.{written}
-use Rattle.signals.specs.HighPass.{memories, passed, high_passed}
+use Rattle.signals.specs.HighPass.{memories, passed}
 use Rattle.signals.specs.declared.highpass.HighPass.{HighPass}
-use Rattle.slices.proofs.Written.{at_written}
 use Rattle.signals.proofs.highpass.high_pass.Given as goal
 
 abbrev pub both : Float → Float → HighPass

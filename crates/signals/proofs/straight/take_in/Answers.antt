@@ -1,10 +1,13 @@
 -- `take_in` writes one sample a turn, as many as fit.
-use Prim.Native.Nat.{◌-◌, ◌≤◌, min}
+use Prim.Native.Nat.{min}
 use mathlib.Core.Path.{◌≡◌, sym, ◌∙◌, ap}
 use native.Mathlib.Numerals.{add-one}
 use native.Mathlib.Omega.{arith}
-use borrow.Author.Rules.{rules, sfits_of}
-use lib.ListN.{length}
+use borrow.Author.Rules.{rules}
+use lib.IntN.{pos}
+use lib.ListN.{length, get_or}
+use mir.Syntax.{w16}
+use mir.Val.{SFits}
 use mir.Facts.{to_z-of_z}
 use Rattle.slices.specs.Written.{written}
 use Rattle.slices.proofs.Written.{written_past}
@@ -17,7 +20,9 @@ loop-i-init c = search rules
 
 pub loop-i-preserved : goal.loop-i-preserved
 unfolding written
-loop-i-preserved c = (search rules, search rules, search rules, rw (add-one, written, ← c.loop-i.invariant.3, to_z-of_z (sfits_of c.out-1.given)))
+loop-i-preserved c =
+    let fits : SFits w16 (get_or c.args.frame.now c.loop-i.i (pos 0)) = search rules in
+    (search rules, search rules, search rules, rw (add-one, written, ← c.loop-i.invariant.3, to_z-of_z fits))
 
 pub returns : goal.returns
 returns c =

@@ -1,13 +1,8 @@
 -- `take_in` writes one sample a turn, as many as fit.
-use Prim.Native.Nat.{◌-◌, ◌≤◌, min}
-use mathlib.Core.Path.{◌≡◌, sym, ◌∙◌, ap}
-use native.Mathlib.Numerals.{add-one}
-use native.Mathlib.Omega.{arith}
-use borrow.Author.Rules.{rules, sfits_of}
+use Prim.Native.Nat.{◌-◌, ◌≤◌}
+use mathlib.Core.Path.{◌≡◌}
 use lib.ListN.{length}
-use mir.Facts.{to_z-of_z}
 use Rattle.slices.specs.Written.{written}
-use Rattle.slices.proofs.Written.{written_past}
 use Rattle.signals.specs.Straight.{sampled}
 use Rattle.signals.proofs.straight.take_in.Given as goal
 
