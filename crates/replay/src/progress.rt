@@ -1,10 +1,9 @@
 // How far a long replay is, on standard error: where that is a terminal, and the size of the input is known.
 use arguments::inputs::Source;
 use outcome::tell;
-use std::fs;
-use std::io;
 use std::io::IsTerminal;
 use std::rt::Clock;
+use std::{fs, io};
 
 // The bytes of the input, 0 where nothing is to be shown; those that were read; when the line was last
 // written, in seconds, or the run began; and whether it stands there.
@@ -29,13 +28,7 @@ fn seconds(rt: &HostRuntime) -> u64 {
 // The bytes of a file, or 0 of anything else.
 fn length_of(metadata: io::Result<fs::Metadata>) -> u64 {
     match metadata {
-        Ok(known) => {
-            if known.is_file() {
-                known.len()
-            } else {
-                0
-            }
-        }
+        Ok(known) => { if known.is_file() { known.len() } else { 0 } }
         Err(_) => 0,
     }
 }

@@ -1,8 +1,8 @@
 // The decoder's cases: for each the past is put into a decoder, a frame is decoded, and the filter and
 // the outputs are compared. All are at 16000 Hz and 10 ms, so a frame has 160 samples.
-use arguments::inputs::Reader;
 use crate::past::{decoder_after, read_past};
 use crate::tally::{Place, Tally};
+use arguments::inputs::Reader;
 use decoder::frame::frame;
 use decoder::state::Decoder;
 use judging::plan::SideInfo;

@@ -1,6 +1,6 @@
 // The encoder's frames: each is read, encoded and compared.
-use arguments::inputs::Reader;
 use crate::tally::{Place, Tally};
+use arguments::inputs::Reader;
 use encoder::frame::Framed;
 use encoder::state::{Encoder, start};
 use lag::pitch::{PitchRecord, Sent, sent_of};

@@ -1,8 +1,8 @@
 // A run over one file of vectors.
-use arguments::inputs::Reader;
 use crate::cases::compare_case;
 use crate::frames::{Encoding, begin, next_frame, start_encoder, stopped, with_tally};
 use crate::tally::Tally;
+use arguments::inputs::Reader;
 use outcome::Outcome;
 use vectors::read::read_number;
 

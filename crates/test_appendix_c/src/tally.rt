@@ -104,9 +104,7 @@ impl Tally {
         let place = self.place;
         let wanted = bits_of(expected);
         let made = bits_of(got);
-        self.print(format_args!(
-            "{place} {name} place {i} expected {wanted:08x} got {made:08x}\n"
-        ))
+        self.print(format_args!("{place} {name} place {i} expected {wanted:08x} got {made:08x}\n"))
     }
 
     // Compares a vector of floats, as far as there are both.

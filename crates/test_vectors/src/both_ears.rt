@@ -1,11 +1,11 @@
 // The records of both ears that the decoder alone does not have: a frame of both, and what is made up in
 // the state of one.
-use arguments::inputs::Reader;
 use crate::ear::{state_of, with_state};
 use crate::reports::{Given, read_given, read_pitch};
 use crate::run::{Run, broken, stopped, with_tally};
 use crate::state_parts::{Decoded, decode_both, with_names, with_run};
 use crate::tally::Tally;
+use arguments::inputs::Reader;
 use ears::frame::BothFramed;
 use lag::pitch::PitchRecord;
 use rates::answer::number;

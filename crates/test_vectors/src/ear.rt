@@ -1,9 +1,9 @@
 // The calls of one ear, and of the decoder alone: a start and a loss mark are read, made and compared.
 // An ear is 0 for left, any other number for right.
-use arguments::inputs::Reader;
 use crate::reports::{compare_reports, read_reports};
 use crate::run::{Run, broken};
 use crate::tally::Tally;
+use arguments::inputs::Reader;
 use decoder::frame::lost;
 use decoder::state::{Decoder, start};
 use rates::answer::number;

@@ -1,8 +1,8 @@
 // The encoder's calls: each is read, made and compared.
-use arguments::inputs::Reader;
 use crate::run::{Run, broken};
 use crate::set::Set;
 use crate::tally::Tally;
+use arguments::inputs::Reader;
 use encoder::frame::Framed;
 use encoder::state::{Encoder, start};
 use lag::pitch::{PitchRecord, Sent, sent_of};

@@ -1,9 +1,9 @@
 // A frame of the decoder: it is read, made and compared.
-use arguments::inputs::Reader;
 use crate::ear::after;
 use crate::reports::{Given, compare_reports, read_given, read_pitch};
 use crate::run::{Run, broken};
 use crate::set::Set;
+use arguments::inputs::Reader;
 use decoder::frame::{Framed, frame};
 use decoder::state::Decoder;
 use judging::plan::SideInfo;

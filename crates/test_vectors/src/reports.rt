@@ -1,6 +1,6 @@
 // What a vector file has for a call of the decoder beside samples.
-use arguments::inputs::Reader;
 use crate::tally::Tally;
+use arguments::inputs::Reader;
 use lag::pitch::{PitchRecord, Present};
 use vectors::read::{Floats, Number, read_floats, read_number};
 

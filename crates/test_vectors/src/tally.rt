@@ -132,9 +132,7 @@ impl Tally {
 
     fn print_sample(self, place: usize, expected: u32, got: u32) -> Self {
         let call = self.call();
-        self.print(format_args!(
-            "{call} sample {place} expected {expected:08x} got {got:08x}\n"
-        ))
+        self.print(format_args!("{call} sample {place} expected {expected:08x} got {got:08x}\n"))
     }
 
     // Compares a sample of the last call's answer by its bits, any NaN with any NaN.
@@ -145,9 +143,7 @@ impl Tally {
             return self;
         }
         if self.differences < PRINTED {
-            return self
-                .print_sample(place, expected_bits, got_bits)
-                .differs();
+            return self.print_sample(place, expected_bits, got_bits).differs();
         }
         self.differs()
     }

@@ -1,11 +1,11 @@
 // The walk over a vector file, record by record.
-use arguments::inputs::Reader;
 use crate::both_ears::{put_names, put_run};
 use crate::ear::{lose_ear, start_ear};
 use crate::run::{Run, begin, stopped, unknown, with_tally};
 use crate::set::read_set;
 use crate::tally::{FRAME, LOSS, START};
 use crate::{both_ears, encoding, one_ear};
+use arguments::inputs::Reader;
 use outcome::Outcome;
 use vectors::read::read_number;
 
@@ -101,12 +101,7 @@ fn step(reader: &mut Reader<'_>, end: End, run: Run) -> Run {
 
 // Compares the file, and prints the counts. A proved loop has to end, so it counts its turns down, from
 // a number that no file uses up.
-pub(crate) fn compare(
-    rt: &HostRuntime,
-    outcome: &mut Outcome,
-    end: End,
-    reader: &mut Reader<'_>,
-) {
+pub(crate) fn compare(rt: &HostRuntime, outcome: &mut Outcome, end: End, reader: &mut Reader<'_>) {
     let mut run = begin(rt, outcome);
     let mut turns = u64::MAX;
     while turns > 0 && run.tally.more {
