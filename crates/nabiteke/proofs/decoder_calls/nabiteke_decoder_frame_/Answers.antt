@@ -2,7 +2,6 @@
 use Rattle.nabiteke.specs.DecoderArrays.{arrays}
 use Rattle.nabiteke.specs.DecoderCalls.{given}
 use Rattle.nabiteke.proofs.DecoderCalls.{frame_left}
-use borrow.Author.Rules.{rules}
 use Rattle.nabiteke.proofs.decoder_calls.nabiteke_decoder_frame_.Goals as goal
 
 pub returns : goal.returns

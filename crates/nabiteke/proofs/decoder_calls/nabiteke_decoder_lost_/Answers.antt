@@ -1,6 +1,5 @@
 -- `nabiteke_decoder_lost_` marks the registers of the numbers, whatever the other arrays are.
 use Rattle.nabiteke.proofs.DecoderCalls.{lost_left}
-use borrow.Author.Rules.{rules}
 use Rattle.nabiteke.proofs.decoder_calls.nabiteke_decoder_lost_.Goals as goal
 
 pub returns : goal.returns

@@ -1,5 +1,4 @@
 -- `nabiteke_decoder_settled_` reads one flag.
-use borrow.Author.Rules.{rules}
 use Rattle.c_arrays.specs.Registers.{read_registers}
 use Rattle.nabiteke.specs.DecoderCalls.{settled_call}
 use Rattle.nabiteke.proofs.decoder_calls.nabiteke_decoder_settled_.Goals as goal

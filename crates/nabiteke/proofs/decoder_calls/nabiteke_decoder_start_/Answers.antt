@@ -1,6 +1,5 @@
 -- `nabiteke_decoder_start_` writes the state of a start.
 use Rattle.nabiteke.proofs.DecoderCalls.{start_left}
-use borrow.Author.Rules.{rules}
 use Rattle.nabiteke.proofs.decoder_calls.nabiteke_decoder_start_.Goals as goal
 
 pub returns : goal.returns

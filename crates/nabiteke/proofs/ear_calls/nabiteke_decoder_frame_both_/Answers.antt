@@ -2,7 +2,6 @@
 use Rattle.nabiteke.specs.DecoderArrays.{arrays}
 use Rattle.nabiteke.specs.EarCalls.{headset_arrays, given_both}
 use Rattle.nabiteke.proofs.EarCalls.{both_left}
-use borrow.Author.Rules.{rules}
 use Rattle.nabiteke.proofs.ear_calls.nabiteke_decoder_frame_both_.Goals as goal
 
 pub returns : goal.returns

@@ -1,5 +1,4 @@
 -- `read_ear` reads registers and pitch.
-use borrow.Author.Rules.{rules}
 use Rattle.nabiteke.proofs.ear_calls.read_ear.Goals as goal
 
 pub returns : goal.returns

@@ -2,7 +2,6 @@
 use Rattle.c_encoder.specs.State.{arrays}
 use Rattle.nabiteke.specs.EncoderCalls.{given}
 use Rattle.nabiteke.proofs.EncoderCalls.{frame_left}
-use borrow.Author.Rules.{rules}
 use Rattle.nabiteke.proofs.encoder_calls.nabiteke_encoder_frame_.Goals as goal
 
 pub returns : goal.returns

@@ -1,6 +1,5 @@
 -- `nabiteke_encoder_start_` writes the state of a start.
 use Rattle.nabiteke.proofs.EncoderCalls.{start_left}
-use borrow.Author.Rules.{rules}
 use Rattle.nabiteke.proofs.encoder_calls.nabiteke_encoder_start_.Goals as goal
 
 pub returns : goal.returns

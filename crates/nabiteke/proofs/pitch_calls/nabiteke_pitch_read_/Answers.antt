@@ -1,6 +1,5 @@
 -- `nabiteke_pitch_read_`: the reading, as numbers.
 use native.Mathlib.Omega.{arith}
-use borrow.Author.Rules.{rules}
 use Rattle.packing.proofs.ByBytes.{at_most_two}
 use Rattle.nabiteke.proofs.pitch_calls.nabiteke_pitch_read_.Goals as goal
 

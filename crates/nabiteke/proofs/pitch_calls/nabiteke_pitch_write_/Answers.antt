@@ -1,6 +1,5 @@
 -- `nabiteke_pitch_write_`: the writing of the pitch that the numbers are.
 use mathlib.Core.Path.{ap, ◌∙◌}
-use borrow.Author.Rules.{rules}
 use Rattle.lag.specs.declared.pitch.PitchRecord.{PitchRecord}
 use Rattle.packing.specs.Writings.{writing}
 use Rattle.nabiteke.specs.PitchCalls.{written_from}
