@@ -1,6 +1,6 @@
 /*
  * Nabiteke: the long-term post filter of the LC3 codec, proved.
- * Build the archive with `rt staticlib nabiteke` and link target/staticlib/libnabiteke.a (Linux, x86-64). It needs
+ * Build the archive by `rt lib` in crates/nabiteke and link crates/nabiteke/out/libnabiteke.a (Linux, x86-64). It needs
  * nothing but memcpy and memset. This header is C99 and C++11.
  *
  * How to use it
