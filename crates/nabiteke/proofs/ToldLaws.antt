@@ -2,7 +2,7 @@
 -- back is what an accepted frame gives whose plan is the told one. `told_refused_lem`, `ear_told_refused`: where it is told with another answer, its call is
 -- not answered 0.
 use Prim.Native.Nat.{ℕ}
-use mathlib.Core.Path.{◌≡◌, refl, sym, ap, ◌∙◌}
+use mathlib.Core.Path.{◌≡◌, refl, ap}
 use mathlib.Core.Bool.{Bool, true, false}
 use mathlib.Core.List.{List}
 use native.Mathlib.Omega.{arith}
@@ -18,7 +18,6 @@ use Rattle.judging.specs.declared.plan.Plan.{Plan}
 use Rattle.judging.specs.declared.plan.Verdict.{Verdict}
 use Rattle.telling.specs.Told.{judged_fitted, told_of}
 use Rattle.telling.proofs.Agreement.{Agree, refused, accepted, frame_agrees}
-use Rattle.on_ring.specs.Registers.{fit_ring}
 use Rattle.decoder.specs.State.{fit_decoder}
 use Rattle.decoder.specs.Frame as frames
 use Rattle.decoder.specs.Frame.{done, framed_with, framed}

@@ -1,5 +1,4 @@
 -- `read_encoder` reads each number and each memory once, and the histories whole.
-use borrow.Author.Rules.{rules}
 use Rattle.c_encoder.specs.State.{read_encoder}
 use Rattle.c_encoder.proofs.state.read_encoder.Goals as goal
 

@@ -1,6 +1,5 @@
 -- `write_floats_if_done`: a refused frame leaves the arrays.
 use mathlib.Core.Path.{sym, ◌∙◌}
-use borrow.Author.Rules.{rules}
 use borrow.Author.Tests.{ne_eqb}
 use Rattle.rates.specs.Answers.{number_of}
 use Rattle.c_encoder.proofs.state.write_floats_if_done.Goals as goal

@@ -1,6 +1,5 @@
 -- `write_numbers_if_done`: a refused frame leaves the numbers.
 use mathlib.Core.Path.{sym, ◌∙◌}
-use borrow.Author.Rules.{rules}
 use borrow.Author.Tests.{ne_eqb}
 use Rattle.rates.specs.Answers.{number_of}
 use Rattle.c_encoder.proofs.state.write_numbers_if_done.Goals as goal
