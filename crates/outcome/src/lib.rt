@@ -132,12 +132,12 @@ fn tell_error(rt: &HostRuntime, error: &io::Error) {
     }
 }
 
-// Says what failed, and why.
-pub fn fail(rt: &HostRuntime, outcome: &mut Outcome, what: &[u8], error: &io::Error)
+// Says what failed, by its name, and why.
+pub fn fail(rt: &HostRuntime, outcome: &mut Outcome, subject: &[u8], error: &io::Error)
     ensures { outcome.new ≡ after_failure outcome.old }
 {
     begin_message(rt);
-    tell(rt, what);
+    tell(rt, subject);
     tell(rt, b": ");
     tell_error(rt, error);
     tell(rt, b"\n");
