@@ -275,7 +275,7 @@ pub fn advance(rt: &HostRuntime, outcome: &mut Outcome, inputs: Inputs, buffer: 
 {
     let argument = inputs.argument;
     if !inputs.is_open {
-        if argument >= end(rt) {
+        if argument > 1 && !is_there(rt, argument) {
             return Next {
                 event: Event::Over,
                 count: 0,
