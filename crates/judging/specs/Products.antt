@@ -1,5 +1,4 @@
--- How many products with a coefficient a frame takes, by its plan. That the definition of the frame's outputs counts just so many is a law of the
--- decoder (`as-counted`).
+-- How many products with a coefficient a frame takes, by its plan.
 use Rattle.std.specs.Prelude.{ℕ, ◌%◌, List, [], ◌∷◌, map}
 use Rattle.rates.specs.declared.config.Lc3Config.{Lc3Config}
 use Rattle.rates.specs.declared.config.Configured.{Configured}

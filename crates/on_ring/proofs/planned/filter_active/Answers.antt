@@ -1,17 +1,24 @@
 -- `filter_active`: the new filter is read back from the coefficients that were computed.
-use Rattle.on_ring.proofs.NewFilter.{read_new}
-use mathlib.Core.Path.{refl}
+use mathlib.Core.Path.{◌≡◌, refl}
 use borrow.Author.Rules.{rules}
+use Rattle.coefficients.specs.Coefficients.{laid_out}
+use Rattle.judging.specs.Filters.{filter_for}
+use Rattle.on_ring.proofs.NewFilter.{read_new}
 use Rattle.on_ring.proofs.planned.filter_active.Goals as goal
 
 pub filter_block-requires : goal.filter_block-requires
-filter_block-requires c = (
-  rw (c.compute_filter_coeffs-new.ensures c.args.plan.lag refl, read_new c.args.plan c.args.numerators.now c.args.denominators.now c.requires.rows.most c.requires.lagless) c.requires.filterable,
-  search rules,
-  search rules,
-)
+filter_block-requires c =
+    let a = c.args in
+    let new : c.compute_filter_coeffs-new.result ≡ laid_out (filter_for a.plan a.numerators.now a.denominators.now) =
+    c.compute_filter_coeffs-new.ensures a.plan.lag refl in (
+      rw (new, read_new a.plan a.numerators.now a.denominators.now c.requires.rows.most c.requires.lagless) c.requires.filterable,
+      search rules,
+      search rules,
+    )
 
 pub returns : goal.returns
 returns c =
-    let new = c.compute_filter_coeffs-new.ensures c.args.plan.lag refl in
-    (new, rw (new, read_new c.args.plan c.args.numerators.now c.args.denominators.now c.requires.rows.most c.requires.lagless) at c.filter_block.ensures)
+    let a = c.args in
+    let new : c.compute_filter_coeffs-new.result ≡ laid_out (filter_for a.plan a.numerators.now a.denominators.now) =
+    c.compute_filter_coeffs-new.ensures a.plan.lag refl in
+    (new, rw (new, read_new a.plan a.numerators.now a.denominators.now c.requires.rows.most c.requires.lagless) at c.filter_block.ensures)
