@@ -3,7 +3,7 @@
 ghost use Rattle.std.specs.Prelude.{◌≡◌, IfSome};
 ghost use Rattle.std.specs.Io.{ReadsAtMost};
 ghost use Rattle.io.specs.Counts.{IsPrefixLen};
-ghost use Rattle.arguments.specs.Inputs.{before, passed as Inputs·passed, after};
+ghost use Rattle.arguments.specs.Inputs.{before, passed as Inputs·passed, count_of, Follows};
 
 use crate::options::{count, is_there};
 use outcome::{Outcome, argument as put_argument, begin_message, failed, write_out};
@@ -11,7 +11,6 @@ use std::env::FillError;
 use std::fs::File;
 use std::io;
 use std::io::Read;
-use std::num::wrapping_add_usize;
 use std::rt::Env;
 use std::str::from_utf8;
 
@@ -22,37 +21,28 @@ pub enum Source {
     Named(File),
 }
 
-// An input that can be read, or why it cannot was said.
-#[derive(Drop)]
-pub enum Opened {
-    Input(Source),
-    Failed,
-}
-
-// Where a program is: at an argument, whose input is open, or is not open yet.
+// Where a program is: at an argument, and at its input once that is open.
 #[derive(Drop)]
 pub struct Inputs {
     pub argument: usize,
-    pub source: Source,
-    pub is_open: bool,
+    pub source: Option<Source>,
 }
 
-// What comes next: an input begins, brings a piece, or ends; or it cannot be read, which was said; or
-// there is none any more.
+// What comes next: an input begins, brings a piece of so many bytes, or ends; or it cannot be read, which
+// was said; or there is none any more.
 #[derive(Clone, Copy)]
 pub enum Event {
     Begun,
-    Piece,
+    Piece(usize),
     Ended,
     Failed,
     Over,
 }
 
-// An event, how many bytes of a piece are in the buffer, and where the program is then.
+// An event, and where the program is then.
 #[derive(Drop)]
 pub struct Next {
     pub event: Event,
-    pub count: usize,
     pub inputs: Inputs,
 }
 
@@ -102,10 +92,8 @@ fn fail_long(rt: &HostRuntime, outcome: &mut Outcome, argument: usize) {
 const EILSEQ: i32 = 84;
 
 fn open_file(rt: &HostRuntime, path: &[u8]) -> io::Result<File> {
-    match from_utf8(path) {
-        Ok(text) => File::open(rt, text),
-        Err(_) => Err(io::Error::from_raw_os_error(EILSEQ)),
-    }
+    let text = from_utf8(path).map_err(|_| io::Error::from_raw_os_error(EILSEQ))?;
+    File::open(rt, text)
 }
 
 // The input of a name, or nothing where it cannot be opened, which was said.
@@ -175,24 +163,16 @@ fn read(
 
 // Closes an input; standard input may be named again.
 pub fn close(source: Source) {
-    match source {
-        Source::Standard => {}
-        Source::Named(_file) => {}
-    }
+    drop(source);
 }
 
-// Opens the input that an argument names. A directory can be opened but not read, which reading no bytes
-// tells.
-pub fn open(rt: &HostRuntime, outcome: &mut Outcome, argument: usize) -> Opened {
-    let Some(source) = source_of(rt, outcome, argument) else {
-        return Opened::Failed;
-    };
+// Opens the input that an argument names, or gives nothing where it cannot be read, which was said. A
+// directory can be opened but not read, which reading no bytes tells.
+pub fn open(rt: &HostRuntime, outcome: &mut Outcome, argument: usize) -> Option<Source> {
+    let source = source_of(rt, outcome, argument)?;
     let mut none = [0u8; 0];
-    if read(rt, outcome, argument, &source, &mut none).is_none() {
-        close(source);
-        return Opened::Failed;
-    }
-    Opened::Input(source)
+    read(rt, outcome, argument, &source, &mut none)?;
+    Some(source)
 }
 
 // Writes the argument that names an input, if it is there, on a line of standard output. Answers whether
@@ -208,8 +188,7 @@ pub fn write_name(rt: &HostRuntime, outcome: &mut Outcome, argument: usize) -> b
 
 // The argument after those of the inputs. Where there are none, the first stands for standard input.
 pub fn end(rt: &HostRuntime) -> usize {
-    let count = count(rt);
-    if count < 2 { 2 } else { count }
+    count(rt).max(2)
 }
 
 // Before the input that an argument names.
@@ -218,8 +197,7 @@ fn at(argument: usize) -> Inputs
 {
     Inputs {
         argument,
-        source: Source::Standard,
-        is_open: false,
+        source: None,
     }
 }
 
@@ -234,74 +212,83 @@ pub fn first() -> Inputs
 fn passed(inputs: Inputs) -> Inputs
     ensures { result ≡ Inputs·passed inputs }
 {
-    at(wrapping_add_usize(inputs.argument, 1))
+    at(inputs.argument.wrapping_add(1))
 }
 
 // Opens the input that is next.
 fn begin(rt: &HostRuntime, outcome: &mut Outcome, inputs: Inputs) -> Next
-    ensures { (result.count ≡ 0) × (result.inputs ≡ after inputs result.inputs.source result.event) }
+    ensures { (count_of result.event ≡ 0) × Follows inputs result }
 {
     let argument = inputs.argument;
-    let opened = open(rt, outcome, argument);
-    let Opened::Input(source) = opened else {
-        return Next {
+    match open(rt, outcome, argument) {
+        Some(source) => Next {
+            event: Event::Begun,
+            inputs: Inputs {
+                argument,
+                source: Some(source),
+            },
+        },
+        None => Next {
             event: Event::Failed,
-            count: 0,
             inputs: passed(inputs),
-        };
-    };
-    Next {
-        event: Event::Begun,
-        count: 0,
-        inputs: Inputs {
-            argument,
-            source,
-            is_open: true,
         },
     }
 }
 
-// Closes the input that is open.
-fn finish(inputs: Inputs) -> Inputs
-    ensures { result ≡ Inputs·passed inputs }
-{
-    passed(inputs)
-}
-
 // Goes on to the next event. A piece of an input is put at the start of the buffer.
 pub fn advance(rt: &HostRuntime, outcome: &mut Outcome, inputs: Inputs, buffer: &mut [u8]) -> Next
-    ensures prefix_len { IsPrefixLen result.count buffer.new }
-    ensures inputs_value { result.inputs ≡ after inputs result.inputs.source result.event }
+    ensures prefix_len { IsPrefixLen (count_of result.event) buffer.new }
+    ensures inputs_value { Follows inputs result }
 {
     let argument = inputs.argument;
-    if !inputs.is_open {
+    let Some(source) = &inputs.source else {
         if argument > 1 && !is_there(rt, argument) {
             return Next {
                 event: Event::Over,
-                count: 0,
                 inputs,
             };
         }
         return begin(rt, outcome, inputs);
-    }
-    let got = read(rt, outcome, argument, &inputs.source, buffer);
-    let Some(count) = got else {
-        return Next {
-            event: Event::Failed,
-            count: 0,
-            inputs: finish(inputs),
-        };
     };
-    if count == 0 {
-        return Next {
+    match read(rt, outcome, argument, source, buffer) {
+        None => Next {
+            event: Event::Failed,
+            inputs: passed(inputs),
+        },
+        Some(0) => Next {
             event: Event::Ended,
-            count: 0,
-            inputs: finish(inputs),
-        };
+            inputs: passed(inputs),
+        },
+        Some(count) => Next {
+            event: Event::Piece(count),
+            inputs,
+        },
     }
-    Next {
-        event: Event::Piece,
-        count,
-        inputs,
+}
+
+// Goes through the inputs to their end. Of each event, with the input that is then open and the bytes of a
+// piece, and of the state before it `each` makes the state after it; the run ends early where it gives none. A
+// proved loop has to end, so it counts to a number that no run reaches.
+pub fn run<S: Drop, F>(rt: &HostRuntime, outcome: &mut Outcome, start: S, each: F)
+where
+    F: Fn(&mut Outcome, S, Event, Option<&Source>, &[u8]) -> Option<S>,
+    requires { F.IsAlwaysCallable each }
+{
+    let mut buffer = [0u8; 65536];
+    let mut inputs = first();
+    let mut state = start;
+    for _ in 0..u64::MAX {
+        let next = advance(rt, outcome, inputs, &mut buffer);
+        inputs = next.inputs;
+        let count = match next.event {
+            Event::Over => return,
+            Event::Piece(count) => count,
+            _ => 0,
+        };
+        let source = inputs.source.as_ref();
+        let Some(after) = each(outcome, state, next.event, source, &buffer[..count]) else {
+            return;
+        };
+        state = after;
     }
 }

@@ -11,7 +11,6 @@ use std::rt::Env;
 // What an argument asks for.
 #[derive(Clone, Copy)]
 enum Asked {
-    Nothing,
     Help,
     Version,
     Unknown(usize),
@@ -20,55 +19,31 @@ enum Asked {
 // Whether the program was called with an argument of that number, of which its own name is 0.
 pub fn is_there(rt: &HostRuntime, argument: usize) -> bool {
     let mut none = [0u8; 0];
-    match rt.arg(argument, &mut none) {
-        Ok(_) => true,
-        Err(FillError::TooLong) => true,
-        Err(FillError::NotPresent) => false,
-    }
+    !matches!(rt.arg(argument, &mut none), Err(FillError::NotPresent))
 }
 
 // How many arguments there are, the program's name among them.
 pub fn count(rt: &HostRuntime) -> usize {
-    for argument in 0..usize::MAX {
-        if !is_there(rt, argument) {
-            return argument;
-        }
-    }
-    usize::MAX
+    (0..usize::MAX)
+        .find(|&argument| !is_there(rt, argument))
+        .unwrap_or(usize::MAX)
 }
 
-fn is_option(word: &[u8]) -> bool {
-    if word.len() < 2 {
-        return false;
-    }
-    word[0] == b'-' && word[1] == b'-'
-}
-
-fn asked_by(rt: &HostRuntime, argument: usize) -> Asked {
+// What an argument asks for, if it is an option.
+fn asked_by(rt: &HostRuntime, argument: usize) -> Option<Asked> {
     let mut space = [0u8; 4096];
     let length = put_argument(rt, argument, &mut space);
-    let word = &space[..length];
-    if word == b"--help".as_slice() {
-        return Asked::Help;
+    match &space[..length] {
+        b"--help" => Some(Asked::Help),
+        b"--version" => Some(Asked::Version),
+        [b'-', b'-', ..] => Some(Asked::Unknown(argument)),
+        _ => None,
     }
-    if word == b"--version".as_slice() {
-        return Asked::Version;
-    }
-    if is_option(word) {
-        return Asked::Unknown(argument);
-    }
-    Asked::Nothing
 }
 
 // What the first option asks for.
-fn first_asked(rt: &HostRuntime) -> Asked {
-    for argument in 1..count(rt) {
-        let asked = asked_by(rt, argument);
-        let Asked::Nothing = asked else {
-            return asked;
-        };
-    }
-    Asked::Nothing
+fn first_asked(rt: &HostRuntime) -> Option<Asked> {
+    (1..count(rt)).find_map(|argument| asked_by(rt, argument))
 }
 
 // Says that an argument is wrong, if it is there, and how the program is called.
@@ -97,23 +72,22 @@ pub fn is_to_run(
 ) -> bool
     ensures { result ≡ true → outcome.new ≡ outcome.old }
 {
-    let asked = first_asked(rt);
-    match asked {
-        Asked::Help => {
+    match first_asked(rt) {
+        Some(Asked::Help) => {
             if write_out(rt, outcome, usage) {
                 write_out(rt, outcome, help);
             }
             false
         }
-        Asked::Version => {
+        Some(Asked::Version) => {
             write_version(rt, outcome);
             false
         }
-        Asked::Unknown(argument) => {
+        Some(Asked::Unknown(argument)) => {
             refuse(rt, outcome, argument, usage);
             false
         }
-        Asked::Nothing => is_few(rt, outcome, usage, most),
+        None => is_few(rt, outcome, usage, most),
     }
 }
 

@@ -1,7 +1,7 @@
 -- Flags and numbers as C's, and what a call leaves.
 use Rattle.std.specs.Prelude.{ℕ, ◌%◌, ◌^◌, Bool, not, cond, eqb}
 use Rattle.rates.specs.Answers.{number_of}
-use Rattle.rates.specs.declared.answer.Answer.{Answer}
+use Rattle.rates.specs.Answers.{Answer}
 
 -- 0 is no, anything else is yes
 abbrev pub is_yes : ℕ → Bool

@@ -11,13 +11,10 @@ use lag::rescale::Lag;
 use on_ring::registers::Registers;
 
 // The registers that the numbers are.
+#[tactic(auto, unfolding(crate::specs::Registers::read_registers))]
 pub fn read_registers(numbers: &[u32; 8]) -> Registers
     ensures { (result ≡ read_registers numbers.now) × Fits32 result }
 {
-    let lag = Lag {
-        whole: wide(numbers[4]),
-        quarter: wide(numbers[5]),
-    };
     Registers {
         marks: Marks {
             rate: numbers[0],
@@ -25,32 +22,30 @@ pub fn read_registers(numbers: &[u32; 8]) -> Registers
             run: numbers[6],
             ltpf_active_prev: is_yes(numbers[2]),
             settled: is_yes(numbers[7]),
-            lag,
+            lag: Lag {
+                whole: wide(numbers[4]),
+                quarter: wide(numbers[5]),
+            },
         },
         block_start_index: wide(numbers[3]),
     }
 }
 
 // Puts the numbers of registers into the caller's.
+#[tactic(auto, unfolding(crate::specs::Registers::numbers_by))]
 pub fn write_numbers(numbers: &mut [u32; 8], registers: Registers)
     ensures { numbers.new ≡ numbers_by narrowed registers }
 {
     let marks = registers.marks;
-    let lag = marks.lag;
-    let active = as_flag(marks.ltpf_active_prev);
-    let block = narrow(registers.block_start_index);
-    let whole = narrow(lag.whole);
-    let quarter = narrow(lag.quarter);
-    let settled = as_flag(marks.settled);
     *numbers = [
         marks.rate,
         marks.duration,
-        active,
-        block,
-        whole,
-        quarter,
+        as_flag(marks.ltpf_active_prev),
+        narrow(registers.block_start_index),
+        narrow(marks.lag.whole),
+        narrow(marks.lag.quarter),
         marks.run,
-        settled,
+        as_flag(marks.settled),
     ];
 }
 
@@ -58,12 +53,8 @@ pub fn write_numbers(numbers: &mut [u32; 8], registers: Registers)
 pub fn write_numbers_if_done(numbers: &mut [u32; 8], res: FramedInPlace) -> u32
     ensures { (result ≡ number_of res.answer) × (numbers.new ≡ where_done res.answer (numbers_by narrowed res.registers) numbers.old) }
 {
-    let answer = res.answer;
-    let word = answer_word(answer);
-    if word != 0 {
-        return word;
+    if res.answer.is_ok() {
+        write_numbers(numbers, res.registers);
     }
-    let registers = res.registers;
-    write_numbers(numbers, registers);
-    0
+    answer_word(res.answer)
 }

@@ -16,10 +16,11 @@ pub fn is_yes(word: u32) -> bool
 pub fn as_flag(on: bool) -> u32
     ensures { result ≡ as_flag on }
 {
-    on as u32
+    u32::from(on)
 }
 
 // The number of an answer.
+#[tactic(auto, using(crate::proofs::AnswerNumbers::two_digits))]
 pub fn answer_word(answer: Answer) -> u32
     ensures { result ≡ number_of answer }
 {

@@ -11,6 +11,7 @@ use found::activation::Memory;
 use signals::highpass::HighPass;
 
 // The state in the caller's arrays.
+#[tactic(auto, unfolding(crate::specs::State::read_encoder))]
 pub fn read_encoder(
     numbers: &[u32; 4],
     memories: &[f32; 5],
@@ -20,28 +21,23 @@ pub fn read_encoder(
 ) -> Encoder
     ensures { result ≡ read_encoder (arrays numbers.now memories.now x_s.now x_12p8.now x_6p4.now) }
 {
-    let memory = Memory {
-        mem_pitch: memories[0],
-        mem_ltpf_active: is_yes(numbers[3]),
-        mem_nc: memories[1],
-        mem_mem_nc: memories[2],
-    };
-    let h50 = HighPass {
-        h50_minus1: memories[3],
-        h50_minus2: memories[4],
-    };
-    let x_s = *x_s;
-    let x_12p8 = *x_12p8;
-    let x_6p4 = *x_6p4;
     Encoder {
         rate: numbers[0],
         duration: numbers[1],
         t_prev: wide(numbers[2]),
-        memory,
-        h50,
-        x_s,
-        x_12p8,
-        x_6p4,
+        memory: Memory {
+            mem_pitch: memories[0],
+            mem_ltpf_active: is_yes(numbers[3]),
+            mem_nc: memories[1],
+            mem_mem_nc: memories[2],
+        },
+        h50: HighPass {
+            h50_minus1: memories[3],
+            h50_minus2: memories[4],
+        },
+        x_s: *x_s,
+        x_12p8: *x_12p8,
+        x_6p4: *x_6p4,
     }
 }
 
@@ -55,18 +51,16 @@ pub fn write_floats(
 )
     ensures { (memories.new, x_s.new, x_12p8.new, x_6p4.new) ≡ floats_of encoder }
 {
-    let memory = encoder.memory;
-    let h50 = encoder.h50;
+    *memories = [
+        encoder.memory.mem_pitch,
+        encoder.memory.mem_nc,
+        encoder.memory.mem_mem_nc,
+        encoder.h50.h50_minus1,
+        encoder.h50.h50_minus2,
+    ];
     let next_s = encoder.x_s;
     let next_12p8 = encoder.x_12p8;
     let next_6p4 = encoder.x_6p4;
-    *memories = [
-        memory.mem_pitch,
-        memory.mem_nc,
-        memory.mem_mem_nc,
-        h50.h50_minus1,
-        h50.h50_minus2,
-    ];
     *x_s = next_s;
     *x_12p8 = next_12p8;
     *x_6p4 = next_6p4;
@@ -82,35 +76,29 @@ pub fn write_floats_if_done(
 )
     ensures { (memories.new, x_s.new, x_12p8.new, x_6p4.new) ≡ where_done res.answer (floats_of res.encoder) (memories.old, x_s.old, x_12p8.old, x_6p4.old) }
 {
-    let answer = res.answer;
-    let word = answer_word(answer);
-    if word != 0 {
-        return;
+    if res.answer.is_ok() {
+        write_floats(memories, x_s, x_12p8, x_6p4, res.encoder);
     }
-    let encoder = res.encoder;
-    write_floats(memories, x_s, x_12p8, x_6p4, encoder);
 }
 
 // Puts the numbers of a state into the caller's.
 pub fn write_numbers(numbers: &mut [u32; 4], encoder: Encoder)
     ensures { numbers.new ≡ numbers_by narrowed encoder }
 {
-    let memory = encoder.memory;
-    let t_prev = narrow(encoder.t_prev);
-    let active = as_flag(memory.mem_ltpf_active);
-    *numbers = [encoder.rate, encoder.duration, t_prev, active];
+    *numbers = [
+        encoder.rate,
+        encoder.duration,
+        narrow(encoder.t_prev),
+        as_flag(encoder.memory.mem_ltpf_active),
+    ];
 }
 
 // The same with the state of a frame's result, where the frame is done. Gives the number of its answer.
 pub fn write_numbers_if_done(numbers: &mut [u32; 4], res: Framed) -> u32
     ensures { (result ≡ number_of res.answer) × (numbers.new ≡ where_done res.answer (numbers_by narrowed res.encoder) numbers.old) }
 {
-    let answer = res.answer;
-    let number = answer_word(answer);
-    if number != 0 {
-        return number;
+    if res.answer.is_ok() {
+        write_numbers(numbers, res.encoder);
     }
-    let encoder = res.encoder;
-    write_numbers(numbers, encoder);
-    0
+    answer_word(res.answer)
 }

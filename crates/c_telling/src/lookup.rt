@@ -2,9 +2,9 @@
 ghost use Rattle.std.specs.Prelude.{◌≡◌};
 ghost use Rattle.c_telling.specs.Lookups.{no_lag_for, lag_at};
 
-use lag::rescale::{LookedUpLag, look_up_lag};
-use rates::answer::Answer;
-use rates::table::{FoundRate, row_of};
+use lag::rescale::look_up_lag;
+use rates::answer::{Answer, Refusal};
+use rates::table::row_of;
 
 // The lag of an index and how it was rounded. Zeros where the lookup is refused.
 #[derive(Clone, Copy)]
@@ -16,11 +16,11 @@ pub struct LagForC {
 }
 
 // A refused lookup.
-fn no_lag_for(answer: Answer) -> LagForC
-    ensures { result ≡ no_lag_for answer }
+fn no_lag_for(refusal: Refusal) -> LagForC
+    ensures { result ≡ no_lag_for refusal }
 {
     LagForC {
-        answer,
+        answer: Err(refusal),
         whole: 0,
         quarter: 0,
         rounding: 0,
@@ -31,17 +31,16 @@ fn no_lag_for(answer: Answer) -> LagForC
 pub fn look_up(rate: u32, index: u32) -> LagForC
     ensures { result ≡ lag_at rate index }
 {
-    let FoundRate::Row(fs) = row_of(rate) else {
-        return no_lag_for(Answer::UnknownRate);
+    let Some(fs) = row_of(rate) else {
+        return no_lag_for(Refusal::UnknownRate);
     };
-    let LookedUpLag::Lag(found) = look_up_lag(fs, index) else {
-        return no_lag_for(Answer::IndexTooLarge);
+    let Some(found) = look_up_lag(fs, index) else {
+        return no_lag_for(Refusal::IndexTooLarge);
     };
-    let lag = found.lag;
     LagForC {
-        answer: Answer::Done,
-        whole: lag.whole as u32,
-        quarter: lag.quarter as u32,
+        answer: Ok(()),
+        whole: found.lag.whole as u32,
+        quarter: found.lag.quarter as u32,
         rounding: found.rounding,
     }
 }

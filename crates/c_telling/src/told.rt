@@ -2,13 +2,12 @@
 ghost use Rattle.std.specs.Prelude.{◌≡◌, ◌≤◌};
 ghost use Rattle.coefficients.specs.Coefficients.{gain_row};
 ghost use Rattle.c_telling.specs.Required.{Narrow};
-ghost use Rattle.c_telling.specs.Tellings.{row_told, rounding_number, told_refused, told_done, told_for};
+ghost use Rattle.c_telling.specs.Tellings.{row_told, told_refused, told_done, told_for};
 
-use judging::plan::{SideInfo, Verdict};
+use judging::plan::SideInfo;
 use lag::gain::Gain;
 use on_ring::registers::{Registers, fit_ring};
-use rates::answer::Answer;
-use telling::rounding::Rounding;
+use rates::answer::{Answer, Refusal};
 use telling::told::{Told, case_number, judge_fitted, told_of};
 
 // The gain's row, 0 where the filter has none.
@@ -31,38 +30,25 @@ pub struct ToldForC {
 }
 
 // The row of a gain, where the frame is active and the gain is not off.
-fn row_told(active: bool, gain: Gain) -> RowForC
+fn row_told(active: bool, gain: Option<Gain>) -> RowForC
     requires { gain_row gain ≤ 3 }
     ensures { result ≡ row_told active gain }
 {
-    if !active {
-        return RowForC { on: false, row: 0 };
-    }
     match gain {
-        Gain::Off => RowForC { on: false, row: 0 },
-        Gain::On { gain: _, row } => RowForC {
+        Some(gain) if active => RowForC {
             on: true,
-            row: row as u32,
+            row: gain.row as u32,
         },
-    }
-}
-
-// A rounding, 0 where there is none.
-fn rounding_number(rounding: Rounding) -> i32
-    ensures { result ≡ rounding_number rounding }
-{
-    match rounding {
-        Rounding::None => 0,
-        Rounding::Difference(difference) => difference,
+        _ => RowForC { on: false, row: 0 },
     }
 }
 
 // A refused frame.
-fn told_refused(answer: Answer) -> ToldForC
-    ensures { result ≡ told_refused answer }
+fn told_refused(refusal: Refusal) -> ToldForC
+    ensures { result ≡ told_refused refusal }
 {
     ToldForC {
-        answer,
+        answer: Err(refusal),
         transition: 0,
         active: false,
         whole: 0,
@@ -72,35 +58,29 @@ fn told_refused(answer: Answer) -> ToldForC
     }
 }
 
-// An accepted frame.
+// An accepted frame. Its rounding is 0 where there is none.
 fn told_done(told: Told) -> ToldForC
     requires { Narrow told.lag × (gain_row told.gain ≤ 3) }
     ensures { result ≡ told_done told }
 {
-    let transition = told.transition;
-    let lag = told.lag;
-    let gain = told.gain;
-    let rounding = told.rounding;
     ToldForC {
-        answer: Answer::Done,
-        transition: case_number(transition),
+        answer: Ok(()),
+        transition: case_number(told.transition),
         active: told.active,
-        whole: lag.whole as u32,
-        quarter: lag.quarter as u32,
-        rounding: rounding_number(rounding),
-        gain: row_told(told.active, gain),
+        whole: told.lag.whole as u32,
+        quarter: told.lag.quarter as u32,
+        rounding: told.rounding.unwrap_or(0),
+        gain: row_told(told.active, told.gain),
     }
 }
 
 // What a frame with this side information is going to do.
+#[tactic(auto, unfolding(crate::specs::Tellings::told_for))]
 pub fn tell(registers: Registers, side: SideInfo) -> ToldForC
     ensures { result ≡ told_for registers side }
 {
-    let marks = registers.marks;
-    let pitch = side.pitch;
-    let plan = match judge_fitted(marks, fit_ring(registers), side) {
-        Verdict::Refused(answer) => return told_refused(answer),
-        Verdict::Accepted(plan) => plan,
-    };
-    told_done(told_of(plan, pitch))
+    match judge_fitted(registers.marks, fit_ring(registers), side) {
+        Ok(plan) => told_done(told_of(plan, side.pitch)),
+        Err(refusal) => told_refused(refusal),
+    }
 }

@@ -1,11 +1,13 @@
 -- Text that is written piece by piece.
 use Prim.Native.Nat.{ℕ, suc, ◌+◌, ◌≤◌, ◌<◌}
-use mathlib.Core.Path.{◌≡◌, ap, ◌∙◌}
+use mathlib.Core.Path.{◌≡◌, ap, sym, ◌∙◌}
 use mathlib.Core.List.{List, [], ◌∷◌, ◌++◌}
 use borrow.Author.Tests.{le-leb, lt-leb}
 use native.Mathlib.Nat.{add-zero, add-suc, suc-add, add_assoc}
 use lib.ListN.{length, set, length-append}
-use lib.Seq.{sets, length-sets}
+use lib.Seq.{sets, length-sets, sets-eq}
+use Rattle.slices.specs.Slices.{stored, placed}
+use Rattle.slices.proofs.Stored.{placed_stored}
 use Rattle.cells.specs.Texts.{Written, Put}
 
 -- a store after a run of stores lengthens the run
@@ -36,3 +38,8 @@ put_written {space} {l} {m} {s} {i} h w =
 
 pub put_nothing : (space : ℕ) (l s : List ℕ) (i : ℕ) → length l < i + space → Put space l i s l i
 put_nothing space l s i h = record { stored = rw (lt-leb (i + space) (length l) h); ends = rw (lt-leb (i + space) (length l) h) }
+
+-- a block of a slice is text in it
+pub placed_sets : (l text : List ℕ) (i : ℕ) → i + length text ≤ length l → placed l i text ≡ sets l i text
+unfolding stored
+placed_sets l text i h = placed_stored l text i h ∙ sym (sets-eq text l i h)

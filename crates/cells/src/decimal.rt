@@ -4,6 +4,8 @@ ghost use Rattle.std.proofs.lemmas.List.Edits.{sets};
 ghost use Rattle.cells.specs.Decimal.{decimal};
 ghost use Rattle.cells.specs.Texts.{Put};
 
+use slices::fits;
+
 // The tens of a number, and the ones left over.
 #[derive(Clone, Copy)]
 struct Tens {
@@ -16,10 +18,7 @@ struct Tens {
 pub fn put_number(out: &mut [u8], at: usize, n: u64) -> usize
     ensures { Put 20 out.old at (decimal n) out.new result }
 {
-    if out.len() < 20 {
-        return at;
-    }
-    if at > out.len() - 20 {
+    if !fits(out, at, 20) {
         return at;
     }
     put_digits(out, at, n)

@@ -1,4 +1,6 @@
 -- A filter's coefficients in one array: written in two parts, and read back.
+use Rattle.lag.specs.declared.gain.Gain.{Gain}
+use Rattle.std.proofs.Common.{Option}
 use Prim.Native.Nat.{ℕ, ◌+◌, ◌-◌, ◌≤◌}
 use mathlib.Core.Path.{◌≡◌, refl}
 use mathlib.Core.Bool.{Bool, true, false}
@@ -8,7 +10,6 @@ use lib.ListN.{length, take, drop, length-append, length-take, length-drop, leng
 use lib.Seq.{take_at, drop_at, take_all, drop-length}
 use lib.Ieee.{Float}
 use borrow.Rule.Slice.PartMut.{put_mid}
-use Rattle.lag.specs.declared.gain.Gain.{Gain}
 use Rattle.lag.specs.declared.rescale.Lag.{Lag}
 use Rattle.coefficients.specs.Coefficients.{Filter, filter_of, new_filter, scaled, row_of_set, laid_out, read_out}
 
@@ -31,7 +32,7 @@ read_back f ln ld = rw (take_at f.c_num f.c_den 11 ln, second_part f.c_num f.c_d
 scaled_long : (size entries r : ℕ) (gain : Float) (set : List Float) → entries ≤ size → length (scaled size gain (row_of_set entries r set)) ≡ size
 scaled_long size entries r gain set h = simp (length-append, length-map, length-drop, length-replicate, length-take) (omega arith)
 
-module _ (order : ℕ) (few : order ≤ 12) (gain : Gain) (lag : Lag) (nums dens : List Float) where
+module _ (order : ℕ) (few : order ≤ 12) (gain : Option Gain) (lag : Lag) (nums dens : List Float) where
   pub new_nums : (active : Bool) → length (new_filter order active gain lag nums dens).c_num ≡ 11
   unfolding new_filter filter_of
   new_nums false = refl

@@ -1,7 +1,6 @@
 -- The filter of a frame: its coefficients, each a gain times an entry of the lent set, and its lag.
-use Rattle.std.specs.Prelude.{ℕ, ◌+◌, ◌-◌, ◌*◌, Bool, true, false, List, map, ◌++◌, Float, length, take, drop, replicate}
 use Rattle.lag.specs.declared.gain.Gain.{Gain}
-use Rattle.lag.specs.declared.gain.Gain.TheVariants.{Off, On}
+use Rattle.std.specs.Prelude.{ℕ, ◌+◌, ◌-◌, ◌*◌, Bool, true, false, List, map, ◌++◌, Float, length, take, drop, replicate, Option, None, Some}
 use Rattle.lag.specs.declared.rescale.Lag.{Lag}
 use Rattle.floats.specs.Single.{◌⊗◌, 0·0, decimal}
 
@@ -14,14 +13,14 @@ pub record Filter : Type 0 where
   pub lag : ℕ
 
 -- off is computed as gain 0.0 on row 0
-abbrev pub gain_value : Gain → Float
-gain_value Off = 0·0
-gain_value (On g row) = g
+abbrev pub gain_value : Option Gain → Float
+gain_value None = 0·0
+gain_value (Some on) = on.gain
 
 -- and its row
-abbrev pub gain_row : Gain → ℕ
-gain_row Off = 0
-gain_row (On g row) = row
+abbrev pub gain_row : Option Gain → ℕ
+gain_row None = 0
+gain_row (Some on) = on.row
 
 -- row r of a set whose rows have so many entries
 abbrev pub row_of_set : ℕ → ℕ → List Float → List Float
@@ -32,7 +31,7 @@ abbrev pub scaled : ℕ → Float → List Float → List Float
 scaled size gain row = map (λ e. gain ⊗ e) row ++ drop (length row) (replicate size 0·0)
 
 -- a numerator entry is (0.85·gain)·table, by gain row, and a denominator entry gain·table, by quarter
-unfoldable pub filter_of : ℕ → Gain → Lag → List Float → List Float → Filter
+unfoldable pub filter_of : ℕ → Option Gain → Lag → List Float → List Float → Filter
 filter_of order gain lag numerators denominators = record {
   l_den = order;
   c_num = scaled 11 (decimal 85 2 ⊗ gain_value gain) (row_of_set (order - 1) (gain_row gain) numerators);
@@ -45,7 +44,7 @@ abbrev pub no_filter : ℕ → Filter
 no_filter order = record { l_den = order; c_num = replicate 11 0·0; c_den = replicate 13 0·0; lag = 0 }
 
 -- this frame's filter, by its gain and its lag; an inactive frame has none
-unfoldable pub new_filter : ℕ → Bool → Gain → Lag → List Float → List Float → Filter
+unfoldable pub new_filter : ℕ → Bool → Option Gain → Lag → List Float → List Float → Filter
 new_filter order false gain lag numerators denominators = no_filter order
 new_filter order true gain lag numerators denominators = filter_of order gain lag numerators denominators
 

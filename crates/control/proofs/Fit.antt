@@ -1,4 +1,6 @@
 -- What fit marks have: a lag of their rate, and a run within its limit.
+use Rattle.rates.specs.declared.answer.Refusal.{Refusal}
+use Rattle.std.proofs.Common.{Result, Ok, Err}
 use Prim.Native.Nat.{ℕ, ◌/◌, ◌≤◌}
 use mathlib.Core.Path.{◌≡◌, refl}
 use mathlib.Core.Bool.{Bool, true, false, cond, not, ◌&&◌}
@@ -7,10 +9,8 @@ use borrow.Author.Tests.{leb-true, ltb-false, not-true}
 use lib.Dec.{leb, ltb}
 use Rattle.rates.specs.Configs.{config_of}
 use Rattle.rates.specs.declared.table.Rate.{Rate}
-use Rattle.rates.specs.declared.answer.Answer.TheVariants.{UnfitState}
+use Rattle.rates.specs.declared.answer.Refusal.TheVariants.{UnfitState}
 use Rattle.rates.specs.declared.config.Lc3Config.{Lc3Config}
-use Rattle.rates.specs.declared.config.Configured.{Configured}
-use Rattle.rates.specs.declared.config.Configured.TheVariants.{Config, Refused}
 use Rattle.rates.proofs.Known.{both}
 use Rattle.lag.specs.Lag.{quarters, rescaled, lag_of}
 use Rattle.lag.specs.declared.rescale.Lag.{Lag}
@@ -40,21 +40,21 @@ run_within active run settled h =
 
 -- what fitness comes to
 pub record Fits (c : Lc3Config) (m : Marks) : Type 0 where
-  pub config : config_of m.rate m.duration ≡ Config c
+  pub config : config_of m.rate m.duration ≡ Ok c
   pub lag : lag_fits c.fs m.ltpf_active_prev m.lag ≡ true
   pub run : run_fits m.ltpf_active_prev m.run m.settled ≡ true
 
 -- marks that fit the configuration that they name
-pub fits_as : (m : Marks) (c : Lc3Config) → config_of m.rate m.duration ≡ Config c → fit c m ≡ true → Fits c m
+pub fits_as : (m : Marks) (c : Lc3Config) → config_of m.rate m.duration ≡ Ok c → fit c m ≡ true → Fits c m
 fits_as m c e f = let t = both (lag_fits c.fs m.ltpf_active_prev m.lag) _ f in record { config = e; lag = t.0; run = t.1 }
 
-pub fits : (m : Marks) (c : Lc3Config) → fit_config m ≡ Config c → Fits c m
+pub fits : (m : Marks) (c : Lc3Config) → fit_config m ≡ Ok c → Fits c m
 fits m c h = go (config_of m.rate m.duration) refl h
   where
-    picked : (k : Lc3Config) (b : Bool) → fit k m ≡ b → config_of m.rate m.duration ≡ Config k → cond b (Config k) (Refused UnfitState) ≡ Config c → Fits c m
+    picked : (k : Lc3Config) (b : Bool) → fit k m ≡ b → config_of m.rate m.duration ≡ Ok k → cond b (Ok k) (Err UnfitState) ≡ Ok c → Fits c m
     picked k true f e q = let same : k ≡ c = cc in fits_as m c (rw same at e) (rw same at f)
     picked k false f e q = let z : ◌≡◌ {A = ℕ} 0 1 = cc in absurd (omega arith)
 
-    go : (k : Configured) → config_of m.rate m.duration ≡ k → fit_with m k ≡ Config c → Fits c m
-    go (Refused a) e q = let z : ◌≡◌ {A = ℕ} 0 1 = cc in absurd (omega arith)
-    go (Config k) e q = picked k (fit k m) refl e q
+    go : (k : Result Lc3Config Refusal) → config_of m.rate m.duration ≡ k → fit_with m k ≡ Ok c → Fits c m
+    go (Err a) e q = let z : ◌≡◌ {A = ℕ} 0 1 = cc in absurd (omega arith)
+    go (Ok k) e q = picked k (fit k m) refl e q

@@ -1,15 +1,14 @@
 -- The lengths that a known rate and duration fix, and their bounds, over the table of rates.
+use Rattle.std.proofs.Common.{Some, Ok}
 use Prim.Native.Nat.{ℕ, ◌+◌, ◌*◌, ◌≤◌}
 use mathlib.Core.Path.{◌≡◌}
 use lib.Dec.{T, leb}
 use Rattle.rates.specs.Table.{row_of, rates}
 use Rattle.rates.specs.Configs.{frame_of, history_of, config_of}
 use Rattle.rates.specs.declared.table.Rate.{Rate}
-use Rattle.rates.specs.declared.table.FoundRate.TheVariants.{Row}
 use Rattle.rates.specs.declared.duration.FrameDuration.{FrameDuration}
 use Rattle.rates.specs.declared.duration.FrameDuration.TheVariants.{TenMs, SevenPointFiveMs}
 use Rattle.rates.specs.declared.config.Lc3Config.{Lc3Config}
-use Rattle.rates.specs.declared.config.Configured.TheVariants.{Config}
 use Rattle.rates.proofs.Rows.{every, bound_at}
 use Rattle.rates.proofs.Known.{Known, known}
 
@@ -18,14 +17,14 @@ abbrev pub FromTable : Lc3Config → Type 0
 FromTable c = (hz : ℕ) × Known hz c
 
 -- the configuration of a rate and a duration
-pub from_table : (hz us : ℕ) (c : Lc3Config) → config_of hz us ≡ Config c → FromTable c
+pub from_table : (hz us : ℕ) (c : Lc3Config) → config_of hz us ≡ Ok c → FromTable c
 from_table hz us c e = (hz, known hz us c e)
 
 -- a bound that holds in every row at both durations
 bound_both : (f g : Rate → FrameDuration → ℕ) →
     T (every (λ (r : Rate). leb (f r TenMs) (g r TenMs)) rates) →
     T (every (λ (r : Rate). leb (f r SevenPointFiveMs) (g r SevenPointFiveMs)) rates) →
-    (hz : ℕ) (row : Rate) → row_of hz ≡ Row row → (d : FrameDuration) → f row d ≤ g row d
+    (hz : ℕ) (row : Rate) → row_of hz ≡ Some row → (d : FrameDuration) → f row d ≤ g row d
 bound_both f g s t hz row p TenMs = bound_at (λ (r : Rate). f r TenMs) (λ (r : Rate). g r TenMs) s hz row p
 bound_both f g s t hz row p SevenPointFiveMs = bound_at (λ (r : Rate). f r SevenPointFiveMs) (λ (r : Rate). g r SevenPointFiveMs) t hz row p
 

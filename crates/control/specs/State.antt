@@ -1,11 +1,10 @@
 -- The marks: what a decoder remembers as a few numbers, which of them are fit, and how a run of inactive frames settles.
-use Rattle.std.specs.Prelude.{ℕ, ◌+◌, min, Bool, true, false, cond, not, ◌&&◌, ◌||◌, leb, ltb, eqb}
+use Rattle.rates.specs.declared.answer.Refusal.{Refusal}
+use Rattle.std.specs.Prelude.{ℕ, ◌+◌, min, Bool, true, false, cond, not, ◌&&◌, ◌||◌, leb, ltb, eqb, Result, Ok, Err}
 use Rattle.rates.specs.Configs.{config_of}
-use Rattle.rates.specs.declared.answer.Answer.TheVariants.{UnfitState}
+use Rattle.rates.specs.declared.answer.Refusal.TheVariants.{UnfitState}
 use Rattle.rates.specs.declared.table.Rate.{Rate}
 use Rattle.rates.specs.declared.config.Lc3Config.{Lc3Config}
-use Rattle.rates.specs.declared.config.Configured.{Configured}
-use Rattle.rates.specs.declared.config.Configured.TheVariants.{Config, Refused}
 use Rattle.lag.specs.Lag.{quarters, lag_of}
 use Rattle.lag.specs.declared.rescale.Lag.{Lag}
 use Rattle.control.specs.declared.marks.Marks.{Marks}
@@ -44,12 +43,12 @@ abbrev pub fit : Lc3Config → Marks → Bool
 fit c m = lag_fits c.fs m.ltpf_active_prev m.lag && run_fits m.ltpf_active_prev m.run m.settled
 
 -- an unknown rate or duration is unfit too
-abbrev pub fit_with : Marks → Configured → Configured
-fit_with m (Refused a) = Refused UnfitState
-fit_with m (Config c) = cond (fit c m) (Config c) (Refused UnfitState)
+abbrev pub fit_with : Marks → Result Lc3Config Refusal → Result Lc3Config Refusal
+fit_with m (Err a) = Err UnfitState
+fit_with m (Ok c) = cond (fit c m) (Ok c) (Err UnfitState)
 
 -- the configuration of fit marks; unfit ones are refused with 9
-abbrev pub fit_config : Marks → Configured
+abbrev pub fit_config : Marks → Result Lc3Config Refusal
 fit_config m = fit_with m (config_of m.rate m.duration)
 
 -- the run after a frame: an active frame zeroes it, an inactive one counts, up to the limit

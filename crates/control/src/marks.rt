@@ -20,6 +20,7 @@ pub struct Marks {
 pub(crate) const SETTLED_LIMIT: u32 = 3;
 
 // The marks of a start.
+#[tactic(auto, unfolding(crate::specs::State::cleared_marks))]
 pub fn clear(rate: u32, duration: u32) -> Marks
     ensures { result ≡ cleared_marks rate duration }
 {

@@ -23,25 +23,22 @@ fn run_after(active: bool, run: u32) -> u32
 fn settled_after(settled: bool, run: u32) -> bool
     ensures { result ≡ settled_after settled run }
 {
-    if settled {
-        return true;
-    }
-    run == SETTLED_LIMIT
+    settled || run == SETTLED_LIMIT
 }
 
 // The marks after a frame, by whether it is active, and by its lag.
+#[tactic(auto, unfolding(crate::specs::Next::next_marks))]
 pub fn advance(marks: Marks, active: bool, lag: Lag) -> Marks
     ensures { result ≡ next_marks marks active lag }
 {
     let run = run_after(active, marks.run);
     let settled = settled_after(marks.settled, run);
     Marks {
-        rate: marks.rate,
-        duration: marks.duration,
         run,
         ltpf_active_prev: active,
         settled,
         lag,
+        ..marks
     }
 }
 
@@ -49,8 +46,9 @@ pub fn advance(marks: Marks, active: bool, lag: Lag) -> Marks
 pub fn unsettle(marks: Marks) -> Marks
     ensures { result ≡ unsettled marks }
 {
-    let mut next = marks;
-    next.run = 0;
-    next.settled = false;
-    next
+    Marks {
+        run: 0,
+        settled: false,
+        ..marks
+    }
 }

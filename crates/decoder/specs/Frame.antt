@@ -1,9 +1,9 @@
 -- A frame and a loss mark: what each gives back, refused or not.
-use Rattle.std.specs.Prelude.{List, Float}
+use Rattle.rates.specs.declared.answer.Refusal.{Refusal}
+use Rattle.rates.specs.declared.config.Lc3Config.{Lc3Config}
+use Rattle.std.specs.Prelude.{List, Float, Result, Ok, Err}
 use Rattle.slices.specs.Slices.{stored}
-use Rattle.rates.specs.declared.answer.Answer.{Answer}
-use Rattle.rates.specs.declared.answer.Answer.TheVariants.{Done}
-use Rattle.rates.specs.declared.config.Configured.{Configured}
+use Rattle.rates.specs.Answers.{Answer}
 use Rattle.coefficients.specs.Coefficients.{Filter, laid_out}
 use Rattle.rings.specs.Samples.{filtered}
 use Rattle.control.specs.Next.{unsettled}
@@ -11,8 +11,6 @@ use Rattle.judging.specs.Judge.{judged}
 use Rattle.judging.specs.Filters.{kept_filter, filter_for}
 use Rattle.judging.specs.declared.plan.SideInfo.{SideInfo}
 use Rattle.judging.specs.declared.plan.Plan.{Plan}
-use Rattle.judging.specs.declared.plan.Verdict.{Verdict}
-use Rattle.judging.specs.declared.plan.Verdict.TheVariants.{Refused, Accepted}
 use Rattle.on_ring.specs.Registers.{moved_on}
 use Rattle.decoder.specs.State.{fit_decoder}
 use Rattle.decoder.specs.declared.state.Decoder.{Decoder}
@@ -44,12 +42,12 @@ framed_as answer d = record { answer = answer; settled = d.registers.marks.settl
 
 -- an accepted frame is answered with 0
 abbrev pub done : Decoder × List Float → Framed × List Float
-done r = (framed_as Done r.0, r.1)
+done r = (framed_as (Ok tt) r.0, r.1)
 
 -- a refused frame hands back the same state and samples
-abbrev pub framed_with : Decoder → List Float → List Float → List Float → Verdict → Framed × List Float
-framed_with d numerators denominators samples (Refused answer) = (framed_as answer d, samples)
-framed_with d numerators denominators samples (Accepted plan) = done (accepted d plan numerators denominators samples)
+abbrev pub framed_with : Decoder → List Float → List Float → List Float → Result Plan Refusal → Framed × List Float
+framed_with d numerators denominators samples (Err refusal) = (framed_as (Err refusal) d, samples)
+framed_with d numerators denominators samples (Ok plan) = done (accepted d plan numerators denominators samples)
 
 -- a frame call
 unfoldable pub framed : Decoder → List Float → List Float → SideInfo → List Float → Framed × List Float
@@ -57,9 +55,9 @@ framed d numerators denominators side samples =
     framed_with d numerators denominators samples (judged d.registers.marks (fit_decoder d) numerators denominators side samples)
 
 -- a loss mark changes the marks alone; an unfit state is handed back as it is
-abbrev pub lost_with : Decoder → Configured → Framed
-lost_with d (Configured.Refused answer) = framed_as answer d
-lost_with d (Configured.Config c) = framed_as Done (record {
+abbrev pub lost_with : Decoder → Result Lc3Config Refusal → Framed
+lost_with d (Err refusal) = framed_as (Err refusal) d
+lost_with d (Ok c) = framed_as (Ok tt) (record {
   registers = record { marks = unsettled d.registers.marks; block_start_index = d.registers.block_start_index };
   kept = d.kept;
   x_hat_mem = d.x_hat_mem;

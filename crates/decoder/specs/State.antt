@@ -1,10 +1,9 @@
 -- The state, and its start.
-use Rattle.std.specs.Prelude.{ℕ, replicate}
+use Rattle.rates.specs.declared.answer.Refusal.{Refusal}
+use Rattle.rates.specs.declared.config.Lc3Config.{Lc3Config}
+use Rattle.std.specs.Prelude.{ℕ, replicate, Result, Ok, Err}
 use Rattle.floats.specs.Single.{0·0}
 use Rattle.rates.specs.Configs.{config_of}
-use Rattle.rates.specs.declared.answer.Answer.TheVariants.{Done}
-use Rattle.rates.specs.declared.config.Configured.{Configured}
-use Rattle.rates.specs.declared.config.Configured.TheVariants.{Config, Refused}
 use Rattle.control.specs.State.{cleared_marks}
 use Rattle.on_ring.specs.Registers.{fit_ring}
 use Rattle.decoder.specs.declared.state.Decoder.{Decoder}
@@ -20,14 +19,14 @@ cleared rate duration = record {
 }
 
 -- a refused start hands back the cleared 48000 Hz, 10 ms state
-abbrev pub started_with : ℕ → ℕ → Configured → Started
-started_with rate duration (Config c) = record { answer = Done; decoder = cleared rate duration }
-started_with rate duration (Refused a) = record { answer = a; decoder = cleared 48000 10000 }
+abbrev pub started_with : ℕ → ℕ → Result Lc3Config Refusal → Started
+started_with rate duration (Ok c) = record { answer = Ok tt; decoder = cleared rate duration }
+started_with rate duration (Err refusal) = record { answer = Err refusal; decoder = cleared 48000 10000 }
 
 -- a start checks 1 and 2
 abbrev pub started : ℕ → ℕ → Started
 started rate duration = started_with rate duration (config_of rate duration)
 
 -- the configuration of a fit state; others are refused with 9
-abbrev pub fit_decoder : Decoder → Configured
+abbrev pub fit_decoder : Decoder → Result Lc3Config Refusal
 fit_decoder d = fit_ring d.registers

@@ -4,6 +4,7 @@ ghost use Rattle.on_ring.specs.Required.{Judged};
 ghost use Rattle.decoder.specs.Frame.{accepted};
 ghost use Rattle.decoder.specs.InPlace.{joined, accepted_apart};
 
+use coefficients::CoefficientSet;
 use filter::transition::Transition;
 use judging::plan::Plan;
 use on_ring::planned::filter_planned;
@@ -17,14 +18,12 @@ pub(crate) fn carry_out(
     kept: &mut [f32; 24],
     x_hat_mem: &mut [f32],
     x_hat_ltpf_mem: &mut [f32],
-    numerators: &[f32],
-    denominators: &[f32],
+    set: CoefficientSet,
     samples: &mut [f32],
 ) -> Registers
-    requires { Judged registers numerators.now denominators.now samples.old plan × (length x_hat_mem.old ≡ 1080) × (length x_hat_ltpf_mem.old ≡ 1080) }
-    ensures { (result, kept.new, x_hat_mem.new, x_hat_ltpf_mem.new, samples.new) ≡ accepted_apart (accepted (joined registers kept.old x_hat_mem.old x_hat_ltpf_mem.old) plan numerators.now denominators.now samples.old) }
+    requires { Judged registers set.numerators.now set.denominators.now samples.old plan × (length x_hat_mem.old ≡ 1080) × (length x_hat_ltpf_mem.old ≡ 1080) }
+    ensures { (result, kept.new, x_hat_mem.new, x_hat_ltpf_mem.new, samples.new) ≡ accepted_apart (accepted (joined registers kept.old x_hat_mem.old x_hat_ltpf_mem.old) plan set.entry.numerators.now set.entry.denominators.now samples.old) }
 {
-    let case = plan.transition;
     let start = registers.block_start_index;
     put(x_hat_mem, start, samples);
     filter_planned(
@@ -34,11 +33,10 @@ pub(crate) fn carry_out(
         kept,
         x_hat_mem,
         x_hat_ltpf_mem,
-        numerators,
-        denominators,
+        set,
     );
     let next = move_on(registers, plan);
-    if let Transition::Inactive = case {
+    if let Transition::Inactive = plan.transition {
         return next;
     }
     put(samples, 0, &x_hat_ltpf_mem[start..start + samples.len()]);

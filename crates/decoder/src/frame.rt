@@ -1,18 +1,21 @@
 // One frame, and the mark of a lost one.
 ghost use Rattle.std.specs.Prelude.{◌≡◌};
+ghost use Rattle.judging.specs.Judge.{judged};
+ghost use Rattle.on_ring.specs.Registers.{fit_ring};
 ghost use Rattle.decoder.specs.Frame.{framed, lost_from};
 ghost use Rattle.decoder.specs.InPlace.{framed_in_place, lost_in_place};
 
 use crate::carry::carry_out;
 use crate::state::Decoder;
+use coefficients::CoefficientSet;
 use control::next::unsettle;
 use judging::judge::judge;
-use judging::plan::{SideInfo, Verdict};
+use judging::plan::{Plan, SideInfo};
 use on_ring::registers::{Registers, fit_ring};
-use rates::answer::Answer;
-use rates::config::Configured;
+use rates::answer::{Answer, Refusal};
 
-// What a call gives back: its answer, the settled report and the state.
+// What a call gives back: its answer, the settled report and the state. No Result, since a refused call hands the state
+// back too.
 #[derive(Clone, Copy)]
 pub struct Framed {
     pub answer: Answer,
@@ -20,16 +23,33 @@ pub struct Framed {
     pub decoder: Decoder,
 }
 
-// What a call on lent arrays gives back beside them: its answer, and the registers, which hold the settled report.
+// What a call on lent arrays gives back beside them: its answer, and the registers, which hold the settled report. These
+// come back from a refused call too.
 #[derive(Clone, Copy)]
 pub struct FramedInPlace {
     pub answer: Answer,
     pub registers: Registers,
 }
 
+// The verdict on a frame, which begins with whether the registers are fit.
+#[tactic(auto, unfolding(judging::specs::Judge::judged))]
+fn verdict(
+    registers: Registers,
+    set: CoefficientSet,
+    side: SideInfo,
+    samples: &[f32],
+) -> Result<Plan, Refusal>
+    ensures { result ≡ judged registers.marks (fit_ring registers) set.entry.numerators.now set.entry.denominators.now side samples.now }
+{
+    let config = fit_ring(registers)?;
+    judge(registers.marks, config, set, side, samples)
+}
+
 // Decodes one frame of a decoder whose coefficients and rings are lent, which spares copying them: filters its samples
 // in place, with the lent rows of the decoder's rate, as the side information says. Everything that can
-// refuse it is tested first, and nothing is read before what comes before it is tested.
+// refuse it is tested first, and nothing is read before what comes before it is tested. The arrays, and the slices of the
+// set, are parameters of their own, as a C caller lends them.
+#[tactic(auto, unfolding(crate::specs::Frame::framed))]
 pub fn frame_in_place(
     registers: Registers,
     kept: &mut [f32; 24],
@@ -42,23 +62,24 @@ pub fn frame_in_place(
 ) -> FramedInPlace
     ensures { (result, kept.new, x_hat_mem.new, x_hat_ltpf_mem.new, samples.new) ≡ framed_in_place registers kept.old x_hat_mem.old x_hat_ltpf_mem.old numerators.now denominators.now side samples.old }
 {
-    let config = match fit_ring(registers) {
-        Configured::Config(config) => config,
-        Configured::Refused(answer) => return FramedInPlace { answer, registers },
+    let set = CoefficientSet {
+        numerators,
+        denominators,
     };
-    let marks = registers.marks;
-    match judge(marks, config, numerators, denominators, side, samples) {
-        Verdict::Refused(answer) => FramedInPlace { answer, registers },
-        Verdict::Accepted(plan) => FramedInPlace {
-            answer: Answer::Done,
+    match verdict(registers, set, side, samples) {
+        Err(refusal) => FramedInPlace {
+            answer: Err(refusal),
+            registers,
+        },
+        Ok(plan) => FramedInPlace {
+            answer: Ok(()),
             registers: carry_out(
                 registers,
                 plan,
                 kept,
                 x_hat_mem,
                 x_hat_ltpf_mem,
-                numerators,
-                denominators,
+                set,
                 samples,
             ),
         },
@@ -66,8 +87,9 @@ pub fn frame_in_place(
 }
 
 // Decodes one frame of a decoder that is handed over and handed back.
+#[tactic(auto, unfolding(crate::specs::Frame::framed))]
 pub fn frame(
-    decoder: Decoder,
+    mut decoder: Decoder,
     numerators: &[f32],
     denominators: &[f32],
     side: SideInfo,
@@ -75,70 +97,58 @@ pub fn frame(
 ) -> Framed
     ensures { (result, samples.new) ≡ framed decoder numerators.now denominators.now side samples.old }
 {
-    let registers = decoder.registers;
-    let mut kept = decoder.kept;
-    let mut x_hat_mem = decoder.x_hat_mem;
-    let mut x_hat_ltpf_mem = decoder.x_hat_ltpf_mem;
     let framed = frame_in_place(
-        registers,
-        &mut kept,
-        &mut x_hat_mem,
-        &mut x_hat_ltpf_mem,
+        decoder.registers,
+        &mut decoder.kept,
+        &mut decoder.x_hat_mem,
+        &mut decoder.x_hat_ltpf_mem,
         numerators,
         denominators,
         side,
         samples,
     );
-    let answer = framed.answer;
-    let next = framed.registers;
     Framed {
-        answer,
-        settled: next.marks.settled,
+        answer: framed.answer,
+        settled: framed.registers.marks.settled,
         decoder: Decoder {
-            registers: next,
-            kept,
-            x_hat_mem,
-            x_hat_ltpf_mem,
+            registers: framed.registers,
+            ..decoder
         },
     }
 }
 
 // Marks a frame as lost in a decoder whose arrays are elsewhere: they are not needed.
+#[tactic(auto, unfolding(crate::specs::Frame::lost_from))]
 pub fn lost_in_place(registers: Registers) -> FramedInPlace
     ensures { result ≡ lost_in_place registers }
 {
-    let marks = registers.marks;
     match fit_ring(registers) {
-        Configured::Refused(answer) => FramedInPlace { answer, registers },
-        Configured::Config(_) => FramedInPlace {
-            answer: Answer::Done,
+        Err(refusal) => FramedInPlace {
+            answer: Err(refusal),
+            registers,
+        },
+        Ok(_) => FramedInPlace {
+            answer: Ok(()),
             registers: Registers {
-                marks: unsettle(marks),
-                block_start_index: registers.block_start_index,
+                marks: unsettle(registers.marks),
+                ..registers
             },
         },
     }
 }
 
 // Marks a frame as lost in a decoder that is handed over and handed back.
+#[tactic(auto, unfolding(crate::specs::Frame::lost_from))]
 pub fn lost(decoder: Decoder) -> Framed
     ensures { result ≡ lost_from decoder }
 {
-    let kept = decoder.kept;
-    let x_hat_mem = decoder.x_hat_mem;
-    let x_hat_ltpf_mem = decoder.x_hat_ltpf_mem;
-    let registers = decoder.registers;
-    let marked = lost_in_place(registers);
-    let answer = marked.answer;
-    let next = marked.registers;
+    let marked = lost_in_place(decoder.registers);
     Framed {
-        answer,
-        settled: next.marks.settled,
+        answer: marked.answer,
+        settled: marked.registers.marks.settled,
         decoder: Decoder {
-            registers: next,
-            kept,
-            x_hat_mem,
-            x_hat_ltpf_mem,
+            registers: marked.registers,
+            ..decoder
         },
     }
 }

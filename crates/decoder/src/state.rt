@@ -5,7 +5,7 @@ ghost use Rattle.decoder.specs.State.{cleared, started};
 use control::marks::clear;
 use on_ring::registers::Registers;
 use rates::answer::Answer;
-use rates::config::{Configured, config};
+use rates::config::config;
 
 // The registers; the previous frame's coefficients, 11 of the numerator and 13 of the denominator; and the rings of past
 // inputs and outputs.
@@ -17,6 +17,7 @@ pub struct Decoder {
     pub x_hat_ltpf_mem: [f32; 1080],
 }
 
+// What a start gives back: a refused one has a state too.
 #[derive(Clone, Copy)]
 pub struct Started {
     pub answer: Answer,
@@ -24,6 +25,7 @@ pub struct Started {
 }
 
 // A state with no past.
+#[tactic(auto, unfolding(crate::specs::State::cleared))]
 fn cleared(rate: u32, duration: u32) -> Decoder
     ensures { result ≡ cleared rate duration }
 {
@@ -31,14 +33,11 @@ fn cleared(rate: u32, duration: u32) -> Decoder
         marks: clear(rate, duration),
         block_start_index: 0,
     };
-    let kept = [0.0; 24];
-    let x_hat_mem = [0.0; 1080];
-    let x_hat_ltpf_mem = [0.0; 1080];
     Decoder {
         registers,
-        kept,
-        x_hat_mem,
-        x_hat_ltpf_mem,
+        kept: [0.0; 24],
+        x_hat_mem: [0.0; 1080],
+        x_hat_ltpf_mem: [0.0; 1080],
     }
 }
 
@@ -47,12 +46,12 @@ pub fn start(rate: u32, duration: u32) -> Started
     ensures { result ≡ started rate duration }
 {
     match config(rate, duration) {
-        Configured::Config(_) => Started {
-            answer: Answer::Done,
+        Ok(_) => Started {
+            answer: Ok(()),
             decoder: cleared(rate, duration),
         },
-        Configured::Refused(answer) => Started {
-            answer,
+        Err(refusal) => Started {
+            answer: Err(refusal),
             decoder: cleared(48000, 10000),
         },
     }

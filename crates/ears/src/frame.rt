@@ -3,6 +3,7 @@ ghost use Rattle.std.specs.Prelude.{◌≡◌};
 ghost use Rattle.ears.specs.InPlace.{both_in_place};
 
 use crate::carry::{hand_back, step_ear, take_up};
+use coefficients::CoefficientSet;
 use decoder::frame::FramedInPlace;
 use ears_judging::ear::Ear;
 use ears_judging::judge::judge_both;
@@ -33,16 +34,18 @@ pub fn frame_both(
 ) -> BothFramed
     ensures { (result, left_kept.new, left_inputs.new, left_outputs.new, right_kept.new, right_inputs.new, right_outputs.new, samples.new) ≡ both_in_place left left_kept.old left_inputs.old left_outputs.old right right_kept.old right_inputs.old right_outputs.old numerators.now denominators.now nbits samples.old }
 {
-    let verdicts = judge_both(left, right, numerators, denominators, nbits, samples);
-    let l = verdicts.left;
-    let r = verdicts.right;
+    let set = CoefficientSet {
+        numerators,
+        denominators,
+    };
+    let verdicts = judge_both(left, right, set, nbits, samples);
     let left_start = left.registers.block_start_index;
     let right_start = right.registers.block_start_index;
     take_up(
-        l,
+        verdicts.left,
         left_start,
         left_inputs,
-        r,
+        verdicts.right,
         right_start,
         right_inputs,
         samples,
@@ -50,28 +53,26 @@ pub fn frame_both(
     let both = BothFramed {
         left: step_ear(
             left,
-            l,
+            verdicts.left,
             left_kept,
             left_inputs,
             left_outputs,
-            numerators,
-            denominators,
+            set,
         ),
         right: step_ear(
             right,
-            r,
+            verdicts.right,
             right_kept,
             right_inputs,
             right_outputs,
-            numerators,
-            denominators,
+            set,
         ),
     };
     hand_back(
-        l,
+        verdicts.left,
         left_start,
         left_outputs,
-        r,
+        verdicts.right,
         right_start,
         right_outputs,
         samples,

@@ -1,12 +1,12 @@
 -- The verdicts on both ears: each is a single decoder's, of its own samples, pitch record and registers, with what the ears share.
-use Rattle.std.specs.Prelude.{ℕ, ◌*◌, Bool, true, false, ◌&&◌, List, eqb, Float, length}
-use Rattle.rates.specs.declared.answer.Answer.TheVariants.{EarsDiffer}
+use Rattle.rates.specs.declared.answer.Refusal.{Refusal}
+use Rattle.judging.specs.declared.plan.Plan.{Plan}
+use Rattle.std.specs.Prelude.{ℕ, ◌*◌, Bool, true, false, ◌&&◌, List, eqb, Float, length, Result, Err}
+use Rattle.rates.specs.declared.answer.Refusal.TheVariants.{EarsDiffer}
 use Rattle.rates.specs.declared.config.Lc3Config.{Lc3Config}
 use Rattle.lag.specs.declared.pitch.PitchRecord.{PitchRecord}
 use Rattle.control.specs.declared.marks.Marks.{Marks}
 use Rattle.judging.specs.Judge.{judged_frame}
-use Rattle.judging.specs.declared.plan.Verdict.{Verdict}
-use Rattle.judging.specs.declared.plan.Verdict.TheVariants.{Refused}
 use Rattle.on_ring.specs.Registers.{fit_ring}
 use Rattle.on_ring.specs.declared.registers.Registers.{Registers}
 use Rattle.interleave.specs.Turns.{lefts, rights}
@@ -30,8 +30,8 @@ abbrev pub two_frames : ℕ → Lc3Config → Bool
 two_frames count c = eqb count (2 * c.nf)
 
 -- the verdict on an ear: 13 comes first; then it is a single decoder's, but that 5 goes by the buffer
-abbrev pub judged_ear : Bool → Shared → Registers → PitchRecord → List Float → Verdict
-judged_ear false s r pitch own = Refused EarsDiffer
+abbrev pub judged_ear : Bool → Shared → Registers → PitchRecord → List Float → Result Plan Refusal
+judged_ear false s r pitch own = Err EarsDiffer
 judged_ear true s r pitch own =
     judged_frame r.marks s.numerators s.denominators (record { pitch = pitch; nbits = s.nbits }) (two_frames s.count) own (fit_ring r)
 

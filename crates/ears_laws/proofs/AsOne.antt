@@ -2,24 +2,22 @@
 -- Either way it gives as many samples as it was given, and rings of the same length.
 use Prim.Native.Nat.{ℕ, ◌*◌}
 use mathlib.Core.Path.{◌≡◌, refl, sym, ◌∙◌, ap}
-use mathlib.Core.Bool.{Bool, true, false, cond, ◌&&◌, true≢false}
+use mathlib.Core.Bool.{Bool, true, false, cond, ◌&&◌}
 use mathlib.Core.List.{List}
 use native.Mathlib.Omega.{arith}
 use borrow.Author.Tests.{eqb-true, eqb-false, ne_eqb}
 use lib.Dec.{eqb}
 use lib.Ieee.{Float}
 use lib.ListN.{length}
-use Rattle.rates.specs.Answers.{number_of}
-use Rattle.rates.specs.declared.answer.Answer.{Answer}
-use Rattle.rates.specs.declared.answer.Answer.TheVariants.{CoefficientCount, CoefficientNotFinite, SampleCount, EarsDiffer}
+use Rattle.std.proofs.Common.{Result, Ok, Err}
+use Rattle.rates.specs.Answers.{refusal_number}
+use Rattle.rates.specs.declared.answer.Refusal.TheVariants.{CoefficientCount, CoefficientNotFinite, SampleCount, EarsDiffer}
 use Rattle.rates.specs.declared.config.Lc3Config.{Lc3Config}
-use Rattle.rates.specs.declared.config.Configured.{Configured}
-use Rattle.rates.specs.declared.config.Configured.TheVariants.{Config}
+use Rattle.rates.specs.declared.answer.Refusal.{Refusal}
 use Rattle.judging.specs.Judge.{unless, set_counts, set_finite, judged_frame, judged}
 use Rattle.on_ring.specs.declared.registers.Registers.{Registers}
-use Rattle.judging.specs.declared.plan.Verdict.{Verdict}
-use Rattle.judging.specs.declared.plan.Verdict.TheVariants.{Refused}
 use Rattle.judging.proofs.Judging.{declined, passed}
+use Rattle.judging.specs.declared.plan.Plan.{Plan}
 use Rattle.on_ring.specs.Registers.{fit_ring}
 use Rattle.decoder.specs.State.{fit_decoder}
 use Rattle.decoder.specs.Frame.{framed_as, framed_with, framed}
@@ -50,40 +48,35 @@ as_one g = record {
   samples = g.samples;
 }
 
--- the answer to any other frame, by the ear's configuration
-abbrev early : Bool → Bool → Answer
+-- the refusal of any other frame, by the ear's configuration
+abbrev early : Bool → Bool → Refusal
 early counts finite = cond counts (cond finite SampleCount CoefficientNotFinite) CoefficientCount
 
-abbrev pub refusal_of : Bool → Shared → Configured → Answer
+abbrev pub refusal_of : Bool → Shared → Result Lc3Config Refusal → Refusal
 refusal_of false s k = EarsDiffer
-refusal_of true s (Configured.Refused answer) = answer
-refusal_of true s (Config c) = early (set_counts c.fs.l_den s.numerators s.denominators) (set_finite s.numerators s.denominators)
+refusal_of true s (Err refusal) = refusal
+refusal_of true s (Ok c) = early (set_counts c.fs.l_den s.numerators s.denominators) (set_finite s.numerators s.denominators)
 
-early_refusal : (p q : Bool) →
-    (unless p CoefficientCount (unless q CoefficientNotFinite (Refused SampleCount)) ≡ Refused (early p q)) × (eqb (number_of (early p q)) 0 ≡ false)
-early_refusal true true = (refl, refl)
-early_refusal true false = (refl, refl)
-early_refusal false q = (refl, refl)
+early_refusal : (p q : Bool) → ◌≡◌ {A = Result Plan Refusal} (unless p CoefficientCount (unless q CoefficientNotFinite (Err SampleCount))) (Err (early p q))
+early_refusal true true = refl
+early_refusal true false = refl
+early_refusal false q = refl
 
-pub refusal_some : (b : Bool) (s : Shared) (c : Lc3Config) → eqb (number_of (refusal_of b s (Config c))) 0 ≡ false
-refusal_some false s c = refl
-refusal_some true s c = (early_refusal (set_counts c.fs.l_den s.numerators s.denominators) (set_finite s.numerators s.denominators)).1
-
--- nor is it 9
-early_fit : (p q : Bool) → number_of (early p q) ≡ 9 → ⊥
+-- it is not 9
+early_fit : (p q : Bool) → refusal_number (early p q) ≡ 9 → ⊥
 early_fit true true e = omega arith
 early_fit true false e = omega arith
 early_fit false q e = omega arith
 
-pub refusal_fit : (b : Bool) (s : Shared) (c : Lc3Config) → number_of (refusal_of b s (Config c)) ≡ 9 → ⊥
+pub refusal_fit : (b : Bool) (s : Shared) (c : Lc3Config) → refusal_number (refusal_of b s (Ok c)) ≡ 9 → ⊥
 refusal_fit false s c e = omega arith
 refusal_fit true s c e = early_fit (set_counts c.fs.l_den s.numerators s.denominators) (set_finite s.numerators s.denominators) e
 
 -- an ear's frame by its verdict
-abbrev pub on_verdict : Decoder → EarGiven → Verdict → Framed × List Float
+abbrev pub on_verdict : Decoder → EarGiven → Result Plan Refusal → Framed × List Float
 on_verdict d g v = framed_with d g.shared.numerators g.shared.denominators g.samples v
 
-abbrev pub verdict_on : EarGiven → Bool → Registers → Verdict
+abbrev pub verdict_on : EarGiven → Bool → Registers → Result Plan Refusal
 verdict_on g b r = judged_ear b g.shared r g.pitch g.samples
 
 pub by_verdict : (d : Decoder) (g : EarGiven) → ear_framed_by d g ≡ on_verdict d g (verdict_on g g.shared.alike d.registers)
@@ -93,29 +86,29 @@ by_verdict d g = refl
 module _ (g : EarGiven) where
   whole_verdict : (b : Bool) (r : Registers) → (b && eqb g.shared.count (2 * length g.samples)) ≡ true →
       verdict_on g b r ≡ judged r.marks (fit_ring r) g.shared.numerators g.shared.denominators (as_one g).side g.samples
-  whole_verdict false r w = absurd (true≢false (sym w))
+  whole_verdict false r w = cc
   whole_verdict true r w =
       as_single r.marks g.shared.numerators g.shared.denominators (as_one g).side g.samples g.shared.count (fit_ring r)
       (eqb-true g.shared.count (2 * length g.samples) w)
 
   other_verdict : Halved g → (b : Bool) (r : Registers) → (b && eqb g.shared.count (2 * length g.samples)) ≡ false →
-      verdict_on g b r ≡ Refused (refusal_of b g.shared (fit_ring r))
+      verdict_on g b r ≡ Err (refusal_of b g.shared (fit_ring r))
   other_verdict h false r w = refl
   other_verdict h true r w = go (fit_ring r)
     where
-      go : (k : Configured) → judged_frame r.marks g.shared.numerators g.shared.denominators (as_one g).side (two_frames g.shared.count) g.samples k ≡
-          Refused (refusal_of true g.shared k)
-      go (Configured.Refused answer) = refl
-      go (Config c) =
+      go : (k : Result Lc3Config Refusal) → judged_frame r.marks g.shared.numerators g.shared.denominators (as_one g).side (two_frames g.shared.count) g.samples k ≡
+          Err (refusal_of true g.shared k)
+      go (Err refusal) = refl
+      go (Ok c) =
           rw (ne_eqb g.shared.count (2 * c.nf) (λ e. eqb-false g.shared.count (2 * length g.samples) w (rw (h c.nf e) e)))
-          (early_refusal (set_counts c.fs.l_den g.shared.numerators g.shared.denominators) (set_finite g.shared.numerators g.shared.denominators)).0
+          (early_refusal (set_counts c.fs.l_den g.shared.numerators g.shared.denominators) (set_finite g.shared.numerators g.shared.denominators))
 
   pub whole_framed : (d : Decoder) → whole g ≡ true → ear_framed_by d g ≡ one.framed_by d (as_one g)
   unfolding framed
   whole_framed d w = by_verdict d g ∙ ap (on_verdict d g) (whole_verdict g.shared.alike d.registers w)
 
   pub other_framed : (d : Decoder) → Halved g → whole g ≡ false →
-      ear_framed_by d g ≡ (framed_as (refusal_of g.shared.alike g.shared (fit_decoder d)) d, g.samples)
+      ear_framed_by d g ≡ (framed_as (Err (refusal_of g.shared.alike g.shared (fit_decoder d))) d, g.samples)
   other_framed d h w = by_verdict d g ∙ ap (on_verdict d g) (other_verdict h g.shared.alike d.registers w)
 
 -- as many samples, and rings as long
@@ -126,15 +119,15 @@ one_keeps : (d : Decoder) (f : one.Given) → Rings d → Kept f.samples (one.fr
 unfolding framed judged
 one_keeps d f r = go (fit_decoder d) refl
   where
-    go : (k : Configured) → fit_decoder d ≡ k → Kept f.samples (one.framed_by d f)
-    go (Configured.Refused answer) e = rw e (refl, r)
-    go (Config c) e =
+    go : (k : Result Lc3Config Refusal) → fit_decoder d ≡ k → Kept f.samples (one.framed_by d f)
+    go (Err refusal) e = rw e (refl, r)
+    go (Ok c) e =
         let s : one.FitState c d = record { found = e; inputs = r.inputs; outputs = r.outputs } in
         let next = framed_fit c f d s in
         (rw (framed_judged c f d s) (long s (outcome_of c f)), record { inputs = next.inputs; outputs = next.outputs })
       where
         long : one.FitState c d → (o : OutcomeOf c f) → length (framed_on c f d o).1 ≡ length f.samples
-        long s (declined answer l h) = refl
+        long s (declined why l h) = refl
         long s (passed lag p) = admit_long s (admitted c f lag p) ∙ sym p.count
 
 pub keeps : (d : Decoder) (g : EarGiven) → Rings d → Halved g → Kept g.samples (ear_framed_by d g)

@@ -3,9 +3,10 @@
 use Prim.Native.Nat.{ℕ}
 use mathlib.Core.Path.{◌≡◌, refl, sym, ◌∙◌, ap}
 use mathlib.Core.List.{List, [], ◌∷◌}
+use Rattle.std.proofs.Common.{Result, Ok, Err}
 use Rattle.call_laws.proofs.Both as both
-use Rattle.rates.specs.declared.config.Configured.{Configured}
-use Rattle.rates.specs.declared.config.Configured.TheVariants.{Config, Refused}
+use Rattle.rates.specs.declared.answer.Refusal.{Refusal}
+use Rattle.rates.specs.declared.config.Lc3Config.{Lc3Config}
 use Rattle.decoder.specs.State.{started, fit_decoder}
 use Rattle.decoder.specs.Frame.{lost_with, lost_from}
 use Rattle.decoder.specs.declared.state.Decoder.{Decoder}
@@ -49,9 +50,9 @@ lost_rings : (d : Decoder) → Rings d → Rings (lost_from d).decoder
 unfolding lost_from
 lost_rings d r = go (fit_decoder d)
   where
-    go : (k : Configured) → Rings (lost_with d k).decoder
-    go (Refused answer) = r
-    go (Config c) = record { inputs = r.inputs; outputs = r.outputs }
+    go : (k : Result Lc3Config Refusal) → Rings (lost_with d k).decoder
+    go (Err refusal) = r
+    go (Ok c) = record { inputs = r.inputs; outputs = r.outputs }
 
 with_rings : (e : WhichEar) (h : Headset) (d : Decoder) → Arrays h → Rings d → Arrays (with_own e h d)
 with_rings left_ear h d a r = (r, a.1)

@@ -16,14 +16,14 @@ use borrow.Author.Tests.{eqb-true, eq-eqb, ne_eqb}
 use lib.Dec.{eqb}
 use lib.Ieee.{Float}
 use lib.ListN.{length}
+use Rattle.std.proofs.Common.{Result, Ok, Err}
 use Rattle.rates.specs.Answers.{number_of}
 use Rattle.rates.specs.declared.config.Lc3Config.{Lc3Config}
-use Rattle.rates.specs.declared.config.Configured.TheVariants.{Config}
 use Rattle.rates.proofs.Known.{both}
+use Rattle.rates.specs.declared.answer.Refusal.{Refusal}
 use Rattle.lag.specs.declared.pitch.PitchRecord.{PitchRecord}
 use Rattle.judging.specs.Judge.{set_counts, set_finite}
-use Rattle.judging.specs.declared.plan.Verdict.{Verdict}
-use Rattle.judging.specs.declared.plan.Verdict.TheVariants.{Refused, Accepted}
+use Rattle.judging.specs.declared.plan.Plan.{Plan}
 use Rattle.decoder.specs.State.{fit_decoder}
 use Rattle.decoder.specs.Frame.{framed}
 use Rattle.decoder.specs.declared.state.Decoder.{Decoder}
@@ -58,10 +58,10 @@ ear_refused : (d : Decoder) (g : EarGiven) → (number_of (ear_framed_by d g).0.
     ((ear_framed_by d g).0.decoder ≡ d) × ((ear_framed_by d g).0.settled ≡ d.registers.marks.settled) × ((ear_framed_by d g).1 ≡ g.samples)
 ear_refused d g n = go (verdict_on g g.shared.alike d.registers) (by_verdict d g)
   where
-    go : (v : Verdict) → ear_framed_by d g ≡ on_verdict d g v →
+    go : (v : Result Plan Refusal) → ear_framed_by d g ≡ on_verdict d g v →
         ((ear_framed_by d g).0.decoder ≡ d) × ((ear_framed_by d g).0.settled ≡ d.registers.marks.settled) × ((ear_framed_by d g).1 ≡ g.samples)
-    go (Refused answer) e = rw e (refl, refl, refl)
-    go (Accepted plan) e = absurd (n (rw e))
+    go (Err refusal) e = rw e (refl, refl, refl)
+    go (Ok plan) e = absurd (n (rw e))
 
 -- an ear's samples are half of an even buffer
 pub given_halved : (e : WhichEar) (h : Headset) (f : Given) → Halved (given_to e h f)
@@ -125,7 +125,7 @@ refused_ear_keeps right_ear h r f n =
     let k = ear_refused h.right (given_to right_ear h f) n in (k.0, k.1, ap (λ (p : Framed × List Float). p.1) (at_exit right_ear h r f) ∙ k.2)
 
 pub odd_buffer : (e : WhichEar) (h : Headset) → Arrays h → NamedAlike h → (f : Given) (k : ℕ) → length f.samples ≡ 2 * k + 1 →
-    (c : Lc3Config) → fit_decoder (own e h) ≡ Config c → set_counts c.fs.l_den f.numerators f.denominators ≡ true → set_finite f.numerators f.denominators ≡ true →
+    (c : Lc3Config) → fit_decoder (own e h) ≡ Ok c → set_counts c.fs.l_den f.numerators f.denominators ≡ true → set_finite f.numerators f.denominators ≡ true →
     number_of (part_of e (framed_both h f)).0.answer ≡ 5
 odd_buffer e h r n f k odd c fit counts finite =
     let half : length f.samples ≡ 2 * length (samples_of e f.samples) → ⊥ = λ q. omega arith in

@@ -7,7 +7,10 @@ use native.Mathlib.Omega.{arith}
 use borrow.Author.Tests.{ne_eqb}
 use Prim.Native.Nat.{◌+◌, ◌*◌}
 use lib.Ieee.{Float}
-use Rattle.rates.specs.declared.answer.Answer.TheVariants.{CoefficientCount}
+use Rattle.std.proofs.Common.{Ok, Err}
+use Rattle.rates.specs.Answers.{refusal_number}
+use Rattle.rates.proofs.Refusals.{never_done}
+use Rattle.rates.specs.declared.answer.Refusal.TheVariants.{CoefficientCount}
 use Rattle.rates.specs.declared.config.Lc3Config.{Lc3Config}
 use Rattle.lag.specs.declared.pitch.PitchRecord.TheVariants.{Absent}
 use Rattle.judging.specs.Judge.{judged}
@@ -17,14 +20,14 @@ use Rattle.decoder.specs.declared.frame.Framed.{Framed}
 use Rattle.settling_laws.specs.Calls as one
 use Rattle.settling_laws.proofs.FitStates.{started_fit, after_lost, unsettled_fit, framed_fit}
 use Rattle.ears_laws.specs.Calls.{Headset, WhichEar, left_ear, right_ear, Call, start, loss, frame, after_all, if_own, EarGiven, EarCall, to_ear, calls_of, ear_after_all, ear_events, ear, ear_frames}
-use Rattle.ears_laws.proofs.AsOne.{Halved, whole, as_one, refusal_some, whole_framed, other_framed}
+use Rattle.ears_laws.proofs.AsOne.{Halved, whole, as_one, refusal_of, whole_framed, other_framed}
 use Rattle.ears_laws.proofs.Interference.{given_halved}
 
 -- no set has no entries
 abbrev unheard : one.Given
 unheard = record { numerators = []; denominators = []; side = record { pitch = Absent; nbits = 0 }; samples = [] }
 
-unheard_refused : (c : Lc3Config) (d : Decoder) → one.FitState c d → one.framed_by d unheard ≡ (framed_as CoefficientCount d, [])
+unheard_refused : (c : Lc3Config) (d : Decoder) → one.FitState c d → one.framed_by d unheard ≡ (framed_as (Err CoefficientCount) d, [])
 unfolding framed judged
 unheard_refused c d s = rw (s.found, ne_eqb 0 (4 * (c.fs.l_den + 1)) (λ e. omega arith), and-false)
 
@@ -61,7 +64,7 @@ module _ (c : Lc3Config) (d : Decoder) (s : one.FitState c d) where
       go true w = (ap state (whole_framed g d w), rw (whole_framed g d w))
       go false w = (
         ap state (other_framed g d h w) ∙ sym (ap state (unheard_refused c d s)),
-        rw (other_framed g d h w, unheard_refused c d s, s.found, refusal_some g.shared.alike g.shared c),
+        rw (other_framed g d h w, unheard_refused c d s, s.found, ne_eqb (refusal_number (refusal_of g.shared.alike g.shared (Ok c))) 0 (never_done (refusal_of g.shared.alike g.shared (Ok c)))),
       )
 
   call_fit : (call : EarCall) → Sound call → one.Fit (ear.after d call)

@@ -12,11 +12,12 @@ use mathlib.Core.Path.{◌≡◌, refl, sym, ◌∙◌, ap}
 use mathlib.Core.Bool.{Bool, true, false}
 use mathlib.Core.List.{List, [], ◌∷◌, map}
 use native.Mathlib.Omega.{arith}
+use Rattle.std.proofs.Common.{Result, Ok, Err}
 use Rattle.rates.specs.Answers.{number_of}
 use Rattle.rates.specs.declared.config.Lc3Config.{Lc3Config}
+use Rattle.rates.specs.declared.answer.Refusal.{Refusal}
 use Rattle.control.specs.State.{settled_limit}
-use Rattle.judging.specs.declared.plan.Verdict.{Verdict}
-use Rattle.judging.specs.declared.plan.Verdict.TheVariants.{Refused, Accepted}
+use Rattle.judging.specs.declared.plan.Plan.{Plan}
 use Rattle.decoder.specs.State.{started}
 use Rattle.decoder.specs.declared.state.Decoder.{Decoder}
 use Rattle.settling_laws.specs.Calls as one
@@ -35,25 +36,25 @@ use Rattle.ears_laws.proofs.OneCalls.{one_call, Stand, stand, all_sound}
 frame_reports : (d : Decoder) (g : EarGiven) → (ear_framed_by d g).0.settled ≡ (ear_framed_by d g).0.decoder.registers.marks.settled
 frame_reports d g = go (verdict_on g g.shared.alike d.registers) (by_verdict d g)
   where
-    go : (v : Verdict) → ear_framed_by d g ≡ on_verdict d g v → (ear_framed_by d g).0.settled ≡ (ear_framed_by d g).0.decoder.registers.marks.settled
-    go (Refused answer) e = rw e
-    go (Accepted plan) e = rw e
+    go : (v : Result Plan Refusal) → ear_framed_by d g ≡ on_verdict d g v → (ear_framed_by d g).0.settled ≡ (ear_framed_by d g).0.decoder.registers.marks.settled
+    go (Err refusal) e = rw e
+    go (Ok plan) e = rw e
 
 only : {x r : one.Reply} → x ∷ [] ≡ r ∷ [] → x ≡ r
 only q = cc
 
 if_own_lem : (e which : WhichEar) (x r : one.Reply) → if_own e which x ≡ r ∷ [] → x ≡ r
 if_own_lem left_ear left_ear x r q = only q
-if_own_lem left_ear right_ear x r q = let z : ◌≡◌ {A = ℕ} 0 1 = cc in absurd (omega arith)
-if_own_lem right_ear left_ear x r q = let z : ◌≡◌ {A = ℕ} 0 1 = cc in absurd (omega arith)
+if_own_lem left_ear right_ear x r q = cc
+if_own_lem right_ear left_ear x r q = cc
 if_own_lem right_ear right_ear x r q = only q
 
 -- and so does each call of both ears, to an ear that it gives a reply
 one_reports : (e which : WhichEar) (h : Headset) (next : Decoder → Decoder) (x r : one.Reply) → x.settled ≡ (next (own e h)).registers.marks.settled →
     if_own e which x ≡ r ∷ [] → r.settled ≡ (own e (with_own which h (next (own which h)))).registers.marks.settled
 one_reports left_ear left_ear h next x r m q = rw (← only q) m
-one_reports left_ear right_ear h next x r m q = let z : ◌≡◌ {A = ℕ} 0 1 = cc in absurd (omega arith)
-one_reports right_ear left_ear h next x r m q = let z : ◌≡◌ {A = ℕ} 0 1 = cc in absurd (omega arith)
+one_reports left_ear right_ear h next x r m q = cc
+one_reports right_ear left_ear h next x r m q = cc
 one_reports right_ear right_ear h next x r m q = rw (← only q) m
 
 call_reports : (e : WhichEar) (h : Headset) → one.Fit (own e h) → (c : Call) (r : one.Reply) → reply_to e h c ≡ r ∷ [] →

@@ -1,4 +1,6 @@
 -- What follows for every frame call: a fit state stays fit, and no index is above 511.
+use Rattle.rates.specs.declared.answer.Refusal.{Refusal}
+use Rattle.std.proofs.Common.{Result, Ok, Err}
 use Prim.Native.Nat.{ℕ, ◌≤◌}
 use mathlib.Core.Path.{◌≡◌, refl}
 use mathlib.Core.Bool.{Bool, true, false, cond}
@@ -7,8 +9,6 @@ use borrow.Author.Tests.{le-leb}
 use lib.IntN.{ℤ}
 use lib.Ieee.{Float}
 use Rattle.rates.specs.declared.config.Lc3Config.{Lc3Config}
-use Rattle.rates.specs.declared.config.Configured.{Configured}
-use Rattle.rates.specs.declared.config.Configured.TheVariants.{Config, Refused}
 use Rattle.lag.specs.Gain.{bits_of, may_activate}
 use Rattle.lag.specs.declared.pitch.PitchRecord.{PitchRecord}
 use Rattle.lag.specs.declared.pitch.PitchRecord.TheVariants.{Absent, Present}
@@ -61,7 +61,7 @@ module _ (e : Encoder) (r k s : List Float) (frame : List ℤ) (nbits : ℕ) (ne
       detected_range (signals_of e.x_s e.x_12p8 e.x_6p4 e.h50 c.fs.p l r frame).x_6p4 l.len6p4 e.t_prev a.lag.0 a.lag.1
 
   -- a frame that is judged leaves a state that is fit, with the same configuration
-  pub stays_fit : (c : Lc3Config) → judged e r k s frame nbits ≡ Config c → fit_config (framed e r k s frame nbits near).encoder ≡ Config c
+  pub stays_fit : (c : Lc3Config) → judged e r k s frame nbits ≡ Ok c → fit_config (framed e r k s frame nbits near).encoder ≡ Ok c
   unfolding encoded next_state
   stays_fit c h =
       let a = judged_facts e r k s frame nbits c h in
@@ -80,6 +80,6 @@ module _ (e : Encoder) (r k s : List Float) (frame : List ℤ) (nbits : ℕ) (ne
   pub decoder_takes : Takes (framed e r k s frame nbits near).pitch
   decoder_takes = go (judged e r k s frame nbits) refl
     where
-      go : (f : Configured) → judged e r k s frame nbits ≡ f → Takes (framed_by f e r k s frame nbits near).pitch
-      go (Refused a) h = tt
-      go (Config c) h = encoded_takes c (judged_facts e r k s frame nbits c h)
+      go : (f : Result Lc3Config Refusal) → judged e r k s frame nbits ≡ f → Takes (framed_by f e r k s frame nbits near).pitch
+      go (Err a) h = tt
+      go (Ok c) h = encoded_takes c (judged_facts e r k s frame nbits c h)

@@ -1,4 +1,5 @@
 -- From a start, silence gives lag 17, absent, 1 bit, at every rate and duration and with every finite set; and so does every silent frame after it.
+use Rattle.std.proofs.Common.{Some, Ok}
 use Prim.Native.Nat.{ℕ, ◌≤◌}
 use mathlib.Core.Path.{◌≡◌, refl}
 use mathlib.Core.Bool.{Bool, true}
@@ -11,11 +12,8 @@ use lib.ListN.{replicate, length-replicate}
 use lib.Ieee.{Float, round, of_int}
 use Rattle.rates.specs.Table.{row_of}
 use Rattle.rates.specs.Configs.{config_of}
-use Rattle.rates.specs.declared.answer.Answer.TheVariants.{Done}
 use Rattle.rates.specs.declared.table.Rate.{Rate}
-use Rattle.rates.specs.declared.table.FoundRate.TheVariants.{Row}
 use Rattle.rates.specs.declared.config.Lc3Config.{Lc3Config}
-use Rattle.rates.specs.declared.config.Configured.TheVariants.{Config}
 use Rattle.rates.proofs.Rows.{at_row}
 use Rattle.lag.specs.declared.pitch.PitchRecord.TheVariants.{Absent}
 use Rattle.resampling.specs.Resample.{scale}
@@ -33,7 +31,7 @@ use Rattle.search.proofs.Silence.{silence}
 use Rattle.signals.proofs.Silent.{Silent, silent_zeros, silent_laid}
 use Rattle.signals.proofs.SilentSignals.{Resampler, plain, rest, silent_signals}
 
-scale_plain : (hz : ℕ) (row : Rate) → row_of hz ≡ Row row → plain (scale row.p) ≡ true
+scale_plain : (hz : ℕ) (row : Rate) → row_of hz ≡ Some row → plain (scale row.p) ≡ true
 unfolding round of_int
 scale_plain hz row h = is_true _ (at_row (λ (row : Rate). plain (scale row.p)) tt hz row h)
 
@@ -46,7 +44,7 @@ pub record SilentState (e : Encoder) : Type 0 where
 
 -- a frame's outcome in silence: absent, 1 bit, lag 17, and a state after silence
 pub record Quiet (f : Framed) : Type 0 where
-  pub done : f.answer ≡ Done
+  pub done : f.answer ≡ Ok tt
   pub absent : f.pitch ≡ Absent
   pub one_bit : f.nbits_ltpf ≡ 1
   pub lag_17 : f.encoder.t_prev ≡ 17
@@ -76,7 +74,7 @@ module _ (e : Encoder) (r k s : List Float) (nbits : ℕ) (near : Bool) (c : Lc3
       })
 
   -- a silent frame after silence is quiet, and leaves silence
-  pub silent_frame_lem : judged e r k s (replicate c.nf (pos 0)) nbits ≡ Config c → Quiet (framed e r k s (replicate c.nf (pos 0)) nbits near)
+  pub silent_frame_lem : judged e r k s (replicate c.nf (pos 0)) nbits ≡ Ok c → Quiet (framed e r k s (replicate c.nf (pos 0)) nbits near)
   silent_frame_lem h = rw h (encoded_silence (judged_facts e r k s _ nbits c h))
 
 -- a start is silent
@@ -85,7 +83,7 @@ silent_start rate duration = record { input = silent_zeros 60; at_12p8 = silent_
 
 -- From a start, silence gives lag 17, absent, 1 bit.
 pub start_silence : (rate duration : ℕ) (r k s : List Float) (nbits : ℕ) (near : Bool) (c : Lc3Config) →
-    config_of rate duration ≡ Config c → counted r k s ≡ true → finite_set r k s ≡ true → nbits ≤ 3200 →
+    config_of rate duration ≡ Ok c → counted r k s ≡ true → finite_set r k s ≡ true → nbits ≤ 3200 →
     Quiet (framed (cleared_at rate duration) r k s (replicate c.nf (pos 0)) nbits near)
 unfolding judged
 start_silence rate duration r k s nbits near c found lengths numbers bits =

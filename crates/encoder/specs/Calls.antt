@@ -2,7 +2,7 @@
 use Rattle.std.specs.Prelude.{ℕ, Bool, true, false, List, ℤ, Float}
 use Rattle.call_laws.specs.Engine as engine
 use Rattle.call_laws.specs.Engine.{Engine}
-use Rattle.rates.specs.declared.answer.Answer.{Answer}
+use Rattle.rates.specs.Answers.{Answer}
 use Rattle.lag.specs.declared.pitch.PitchRecord.{PitchRecord}
 use Rattle.encoder.specs.State.{started}
 use Rattle.encoder.specs.Frame.{framed}

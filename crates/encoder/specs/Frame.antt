@@ -1,10 +1,8 @@
 -- The frame call: a refused frame, one that is encoded, and the next state.
-use Rattle.std.specs.Prelude.{ℕ, Bool, List, ℤ, Float}
-use Rattle.rates.specs.declared.answer.Answer.{Answer}
-use Rattle.rates.specs.declared.answer.Answer.TheVariants.{Done}
+use Rattle.rates.specs.declared.answer.Refusal.{Refusal}
+use Rattle.std.specs.Prelude.{ℕ, Bool, List, ℤ, Float, Result, Ok, Err}
+use Rattle.rates.specs.Answers.{Answer}
 use Rattle.rates.specs.declared.config.Lc3Config.{Lc3Config}
-use Rattle.rates.specs.declared.config.Configured.{Configured}
-use Rattle.rates.specs.declared.config.Configured.TheVariants.{Config, Refused}
 use Rattle.lag.specs.declared.pitch.PitchRecord.TheVariants.{Absent}
 use Rattle.signals.specs.Straight.{laid}
 use Rattle.signals.specs.Signals.{Signals, signals_of}
@@ -24,7 +22,7 @@ refused_frame e a = record { answer = a; pitch = Absent; nbits_ltpf = 0; encoder
 
 -- a frame that is done has the record and the bits that were found, and the next state
 abbrev pub done_frame : Found → Encoder → Framed
-done_frame found e = record { answer = Done; pitch = found.pitch; nbits_ltpf = found.nbits_ltpf; encoder = e }
+done_frame found e = record { answer = Ok tt; pitch = found.pitch; nbits_ltpf = found.nbits_ltpf; encoder = e }
 
 -- the next state: each history holds the last entries of its signal
 unfoldable pub next_state : Encoder → Signals → ℕ → Lengths → ℕ → Memory → Encoder
@@ -49,9 +47,9 @@ encoded e c r k s frame nbits near =
     done_frame found (next_state e signals c.nf l d.t_curr found.memory)
 
 -- a frame that is refused, or encoded by a configuration
-abbrev pub framed_by : Configured → Encoder → List Float → List Float → List Float → List ℤ → ℕ → Bool → Framed
-framed_by (Refused a) e r k s frame nbits near = refused_frame e a
-framed_by (Config c) e r k s frame nbits near = encoded e c r k s frame nbits near
+abbrev pub framed_by : Result Lc3Config Refusal → Encoder → List Float → List Float → List Float → List ℤ → ℕ → Bool → Framed
+framed_by (Err a) e r k s frame nbits near = refused_frame e (Err a)
+framed_by (Ok c) e r k s frame nbits near = encoded e c r k s frame nbits near
 
 -- the frame call: a state, the three slices of a set, the samples, the bits and the near-Nyquist flag
 abbrev pub framed : Encoder → List Float → List Float → List Float → List ℤ → ℕ → Bool → Framed

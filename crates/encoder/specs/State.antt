@@ -1,10 +1,9 @@
 -- The encoder's state: how it starts, and where it is fit for a frame.
-use Rattle.std.specs.Prelude.{ℕ, false, replicate}
+use Rattle.rates.specs.declared.answer.Refusal.{Refusal}
+use Rattle.rates.specs.declared.config.Lc3Config.{Lc3Config}
+use Rattle.std.specs.Prelude.{ℕ, false, replicate, Result, Ok, Err}
 use Rattle.floats.specs.Single.{0·0}
 use Rattle.rates.specs.Configs.{config_of}
-use Rattle.rates.specs.declared.answer.Answer.TheVariants.{Done}
-use Rattle.rates.specs.declared.config.Configured.{Configured}
-use Rattle.rates.specs.declared.config.Configured.TheVariants.{Config, Refused}
 pub use Rattle.encoder_refusals.specs.Refusals.{fit_by, fit_of}
 use Rattle.encoder.specs.declared.state.Encoder.{Encoder}
 use Rattle.encoder.specs.declared.state.Started.{Started}
@@ -23,14 +22,14 @@ cleared_at rate duration = record {
 }
 
 -- a refused start hands back the cleared 48000 Hz, 10 ms state
-abbrev pub started_with : Configured → ℕ → ℕ → Started
-started_with (Config c) rate duration = record { answer = Done; encoder = cleared_at rate duration }
-started_with (Refused a) rate duration = record { answer = a; encoder = cleared_at 48000 10000 }
+abbrev pub started_with : Result Lc3Config Refusal → ℕ → ℕ → Started
+started_with (Ok c) rate duration = record { answer = Ok tt; encoder = cleared_at rate duration }
+started_with (Err a) rate duration = record { answer = Err a; encoder = cleared_at 48000 10000 }
 
 -- a start at a rate in Hz and a duration in microseconds: checks 1 and 2
 abbrev pub started : ℕ → ℕ → Started
 started rate duration = started_with (config_of rate duration) rate duration
 
 -- the configuration of a state that is fit
-abbrev pub fit_config : Encoder → Configured
+abbrev pub fit_config : Encoder → Result Lc3Config Refusal
 fit_config e = fit_of e.rate e.duration e.t_prev

@@ -1,18 +1,17 @@
 // The frame call: a frame of samples in, its pitch record, its bits and the next state out.
 ghost use Rattle.std.specs.Prelude.{◌≡◌, ◌≤◌};
-ghost use Rattle.rates.specs.declared.config.Configured.TheVariants.{Config};
 ghost use Rattle.rates.specs.Lengths.{lengths_of};
 ghost use Rattle.encoder.specs.Judge.{judged};
 ghost use Rattle.encoder.specs.Frame.{refused_frame, done_frame, next_state, encoded, framed};
 
-use crate::history::{last_60, last_114, last_276};
+use crate::history::last;
 use crate::state::Encoder;
-use encoder_refusals::{fit_config, judge_bits, judge_count, judge_set};
+use encoder_refusals::{EncoderSet, fit_config, judge_bits, judge_count, judge_set};
 use found::activation::Memory;
 use found::{Found, found_in};
 use lag::pitch::PitchRecord;
-use rates::answer::Answer;
-use rates::config::{Configured, Lc3Config};
+use rates::answer::{Answer, Refusal};
+use rates::config::Lc3Config;
 use rates::lengths::lengths_of;
 use search::pitch::pitch_detection;
 use signals::highpass::HighPass;
@@ -42,10 +41,9 @@ fn refused(encoder: Encoder, answer: Answer) -> Framed
 fn done(found: Found, encoder: Encoder) -> Framed
     ensures { result ≡ done_frame found encoder }
 {
-    let pitch = found.pitch;
     Framed {
-        answer: Answer::Done,
-        pitch,
+        answer: Ok(()),
+        pitch: found.pitch,
         nbits_ltpf: found.nbits_ltpf,
         encoder,
     }
@@ -65,60 +63,72 @@ fn next(
     requires { c.nf ≤ 480 }
     ensures { result ≡ next_state e (record { x_s = at_rate.now; x_12p8 = at_12p8.now; x_6p4 = at_6p4.now; h50 = h50 }) c.nf (lengths_of c.n_ms) t_curr memory }
 {
-    let n_ms = c.n_ms;
-    let l = lengths_of(n_ms);
-    let x_s = last_60(at_rate, c.nf);
-    let x_12p8 = last_276(at_12p8, l.len12p8);
-    let x_6p4 = last_114(at_6p4, l.len6p4);
+    let l = lengths_of(c.n_ms);
     Encoder {
-        rate: e.rate,
-        duration: e.duration,
         t_prev: t_curr,
         memory,
         h50,
-        x_s,
-        x_12p8,
-        x_6p4,
+        x_s: last(at_rate, c.nf),
+        x_12p8: last(at_12p8, l.len12p8),
+        x_6p4: last(at_6p4, l.len6p4),
+        ..e
     }
+}
+
+// The configuration by which a frame is encoded, or the first refusal.
+#[tactic(auto, unfolding(crate::specs::Judge::judged))]
+fn judge(e: &Encoder, set: EncoderSet<'_>, frame: &[i16], nbits: u32) -> Result<Lc3Config, Refusal>
+    ensures { result ≡ judged e.now set.entry.resampling.now set.entry.correlation.now set.entry.signal.now frame.now nbits }
+{
+    let fit = fit_config(e.rate, e.duration, e.t_prev);
+    judge_bits(judge_count(judge_set(fit, set), frame.len()), nbits)
 }
 
 // Encodes a frame that was judged, with its configuration c.
 fn encode(
     e: Encoder,
     c: Lc3Config,
-    resampling: &[f32],
-    correlation: &[f32],
-    signal: &[f32],
+    set: EncoderSet<'_>,
     frame: &[i16],
     nbits: u32,
     near_nyquist: bool,
 ) -> Framed
-    requires { judged e resampling.now correlation.now signal.now frame.now nbits ≡ Config c }
-    ensures { result ≡ encoded e c resampling.now correlation.now signal.now frame.now nbits near_nyquist }
+    requires { judged e set.resampling.now set.correlation.now set.signal.now frame.now nbits ≡ Ok c }
+    ensures { result ≡ encoded e c set.entry.resampling.now set.entry.correlation.now set.entry.signal.now frame.now nbits near_nyquist }
 {
-    let fs = c.fs;
+    let EncoderSet {
+        resampling,
+        correlation,
+        signal,
+    } = set;
     let n_ms = c.n_ms;
     let mut x_s = [0.0; 540];
     let mut x_12p8 = [0.0; 404];
     let mut x_6p4 = [0.0; 178];
     at_rate(&e.x_s, frame, &mut x_s);
-    let h50 = at_12p8(&e.x_12p8, e.h50, &x_s, resampling, fs.p, n_ms, &mut x_12p8);
+    let h50 = at_12p8(
+        &e.x_12p8,
+        e.h50,
+        &x_s,
+        resampling,
+        c.fs.p,
+        n_ms,
+        &mut x_12p8,
+    );
     at_6p4(&e.x_6p4, &x_12p8, n_ms, &mut x_6p4);
     let detected = pitch_detection(&x_6p4, n_ms, e.t_prev);
-    let memory = e.memory;
     let found = found_in(
         c,
         &x_12p8,
         detected,
-        memory,
+        e.memory,
         correlation,
         signal,
         nbits,
         near_nyquist,
     );
-    let next_memory = found.memory;
     let t_curr = detected.t_curr;
-    let encoder = next(e, h50, &x_s, &x_12p8, &x_6p4, c, t_curr, next_memory);
+    let encoder = next(e, h50, &x_s, &x_12p8, &x_6p4, c, t_curr, found.memory);
     done(found, encoder)
 }
 
@@ -136,25 +146,14 @@ impl Encoder {
     ) -> Framed
         ensures { result ≡ framed self resampling.now correlation_interpolation.now signal_interpolation.now x_s.now nbits near_nyquist_flag }
     {
-        let fit = fit_config(self.rate, self.duration, self.t_prev);
-        let set_judged = judge_set(
-            fit,
+        let set = EncoderSet {
             resampling,
-            correlation_interpolation,
-            signal_interpolation,
-        );
-        match judge_bits(judge_count(set_judged, x_s.len()), nbits) {
-            Configured::Refused(answer) => refused(self, answer),
-            Configured::Config(c) => encode(
-                self,
-                c,
-                resampling,
-                correlation_interpolation,
-                signal_interpolation,
-                x_s,
-                nbits,
-                near_nyquist_flag,
-            ),
+            correlation: correlation_interpolation,
+            signal: signal_interpolation,
+        };
+        match judge(&self, set, x_s, nbits) {
+            Err(refusal) => refused(self, Err(refusal)),
+            Ok(c) => encode(self, c, set, x_s, nbits, near_nyquist_flag),
         }
     }
 }

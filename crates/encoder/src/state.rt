@@ -4,7 +4,7 @@ ghost use Rattle.encoder.specs.State.{cleared_at, started};
 
 use found::activation::Memory;
 use rates::answer::Answer;
-use rates::config::{Configured, config};
+use rates::config::config;
 use signals::highpass::HighPass;
 
 // The rate in Hz and the duration in microseconds, the previous lag at 6.4 kHz, what the activation
@@ -32,9 +32,6 @@ pub struct Started {
 fn cleared(rate: u32, duration: u32) -> Encoder
     ensures { result ≡ cleared_at rate duration }
 {
-    let x_s = [0.0; 60];
-    let x_12p8 = [0.0; 276];
-    let x_6p4 = [0.0; 114];
     Encoder {
         rate,
         duration,
@@ -49,9 +46,9 @@ fn cleared(rate: u32, duration: u32) -> Encoder
             h50_minus1: 0.0,
             h50_minus2: 0.0,
         },
-        x_s,
-        x_12p8,
-        x_6p4,
+        x_s: [0.0; 60],
+        x_12p8: [0.0; 276],
+        x_6p4: [0.0; 114],
     }
 }
 
@@ -61,12 +58,12 @@ pub fn start(rate: u32, duration: u32) -> Started
     ensures { result ≡ started rate duration }
 {
     match config(rate, duration) {
-        Configured::Config(_) => Started {
-            answer: Answer::Done,
+        Ok(_) => Started {
+            answer: Ok(()),
             encoder: cleared(rate, duration),
         },
-        Configured::Refused(answer) => Started {
-            answer,
+        Err(refusal) => Started {
+            answer: Err(refusal),
             encoder: cleared(48000, 10000),
         },
     }

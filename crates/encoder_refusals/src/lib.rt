@@ -6,95 +6,79 @@ ghost use Rattle.std.specs.Prelude.{◌≡◌};
 ghost use Rattle.encoder_refusals.specs.Refusals.{fit_of, counted, finite_set, judged_set, judged_count, judged_bits};
 
 use floats::all_finite;
-use rates::answer::Answer;
-use rates::config::{Configured, config};
+use rates::answer::Refusal;
+use rates::config::{Lc3Config, config};
+
+// The three slices of a set, which travel together.
+#[derive(Clone, Copy)]
+pub struct EncoderSet<'a> {
+    pub resampling: &'a [f32],
+    pub correlation: &'a [f32],
+    pub signal: &'a [f32],
+}
 
 // Check 9: the configuration of a state that names a rate in Hz, a duration in microseconds and a
 // previous lag. Where it is unfit it has none.
-pub fn fit_config(rate: u32, duration: u32, t_prev: usize) -> Configured
+pub fn fit_config(rate: u32, duration: u32, t_prev: usize) -> Result<Lc3Config, Refusal>
     ensures { result ≡ fit_of rate duration t_prev }
 {
-    let Configured::Config(c) = config(rate, duration) else {
-        return Configured::Refused(Answer::UnfitState);
-    };
-    if t_prev < 17 {
-        return Configured::Refused(Answer::UnfitState);
+    let c = config(rate, duration).map_err(|_| Refusal::UnfitState)?;
+    if t_prev < 17 || t_prev > 114 {
+        return Err(Refusal::UnfitState);
     }
-    if t_prev > 114 {
-        return Configured::Refused(Answer::UnfitState);
-    }
-    Configured::Config(c)
+    Ok(c)
 }
 
-// Whether the slices of a set have their lengths.
-fn is_counted(resampling: &[f32], correlation: &[f32], signal: &[f32]) -> bool
-    ensures { result ≡ counted resampling.now correlation.now signal.now }
-{
-    if resampling.len() != 239 {
-        return false;
+impl EncoderSet<'_> {
+    // Whether the slices have their lengths.
+    #[tactic(auto, unfolding(crate::specs::Refusals::counted))]
+    fn is_counted(self) -> bool
+        ensures { result ≡ counted self.entry.resampling.now self.entry.correlation.now self.entry.signal.now }
+    {
+        self.resampling.len() == 239 && self.correlation.len() == 31 && self.signal.len() == 15
     }
-    if correlation.len() != 31 {
-        return false;
-    }
-    signal.len() == 15
-}
 
-// Whether every entry of a set is a number.
-fn is_finite(resampling: &[f32], correlation: &[f32], signal: &[f32]) -> bool
-    ensures { result ≡ finite_set resampling.now correlation.now signal.now }
-{
-    if !all_finite(resampling) {
-        return false;
+    // Whether every entry is a number.
+    #[tactic(auto, unfolding(crate::specs::Refusals::finite_set))]
+    fn is_finite(self) -> bool
+        ensures { result ≡ finite_set self.entry.resampling.now self.entry.correlation.now self.entry.signal.now }
+    {
+        all_finite(self.resampling) && all_finite(self.correlation) && all_finite(self.signal)
     }
-    if !all_finite(correlation) {
-        return false;
-    }
-    all_finite(signal)
 }
 
 // Checks 3 and 4, of the set lent to a fit state.
-pub fn judge_set(
-    fit: Configured,
-    resampling: &[f32],
-    correlation: &[f32],
-    signal: &[f32],
-) -> Configured
-    ensures { result ≡ judged_set fit resampling.now correlation.now signal.now }
+pub fn judge_set(fit: Result<Lc3Config, Refusal>, set: EncoderSet<'_>) -> Result<Lc3Config, Refusal>
+    ensures { result ≡ judged_set fit set.entry.resampling.now set.entry.correlation.now set.entry.signal.now }
 {
-    let Configured::Config(c) = fit else {
-        return Configured::Refused(Answer::UnfitState);
-    };
-    if !is_counted(resampling, correlation, signal) {
-        return Configured::Refused(Answer::CoefficientCount);
+    let c = fit.map_err(|_| Refusal::UnfitState)?;
+    if !set.is_counted() {
+        return Err(Refusal::CoefficientCount);
     }
-    if !is_finite(resampling, correlation, signal) {
-        return Configured::Refused(Answer::CoefficientNotFinite);
+    if !set.is_finite() {
+        return Err(Refusal::CoefficientNotFinite);
     }
-    Configured::Config(c)
+    Ok(c)
 }
 
 // Check 5, where nothing was refused before: the count of samples.
-pub fn judge_count(judged: Configured, count: usize) -> Configured
+pub fn judge_count(judged: Result<Lc3Config, Refusal>, count: usize) -> Result<Lc3Config, Refusal>
     ensures { result ≡ judged_count judged count }
 {
-    let Configured::Config(c) = judged else {
-        return judged;
-    };
+    let c = judged?;
     if count != c.nf {
-        return Configured::Refused(Answer::SampleCount);
+        return Err(Refusal::SampleCount);
     }
-    judged
+    Ok(c)
 }
 
 // Check 6, where nothing was refused before: the frame's bits.
-pub fn judge_bits(judged: Configured, nbits: u32) -> Configured
+pub fn judge_bits(judged: Result<Lc3Config, Refusal>, nbits: u32) -> Result<Lc3Config, Refusal>
     ensures { result ≡ judged_bits judged nbits }
 {
-    let Configured::Config(c) = judged else {
-        return judged;
-    };
+    let c = judged?;
     if nbits > 3200 {
-        return Configured::Refused(Answer::TooManyBits);
+        return Err(Refusal::TooManyBits);
     }
-    judged
+    Ok(c)
 }

@@ -1,76 +1,47 @@
 // The side information of a frame as a booth writes it: pitch, active and nbits, separated by tabs.
-ghost use Rattle.std.specs.Prelude.{◌≡◌};
+ghost use Rattle.std.specs.Prelude.{◌≡◌, Ok};
 ghost use Rattle.entries.specs.Sides.{side_with, side_of, marks_read, side_read};
 
 use judging::plan::SideInfo;
 use lag::pitch::{PitchRecord, Present};
-use lines::field::{Field, Number, first_tab, read_field, read_number};
+use lines::field::{Malformed, read_field, read_number, split_at_tab};
 
-#[derive(Clone, Copy)]
-pub enum Side {
-    Malformed,
-    Info(SideInfo),
+// The side information of a pitch, an active mark and a number of bits: where there is no pitch, it cannot be active.
+fn side_with(index: Option<u32>, active: bool, nbits: u32) -> Result<SideInfo, Malformed>
+    ensures { result ≡ side_with (Ok index) active nbits }
+{
+    let pitch = match index {
+        Some(index) => PitchRecord::Present(Present { index, active }),
+        None if active => return Err(Malformed),
+        None => PitchRecord::Absent,
+    };
+    Ok(SideInfo { pitch, nbits })
 }
 
-// The side information of a pitch field, an active mark and a number of bits: a dash is no pitch, and cannot be active.
-fn side_with(pitch: Field, active: bool, nbits: u32) -> Side
-    ensures { result ≡ side_with pitch active nbits }
+// The same where the mark is as it was read: it is 0 or 1.
+fn side_of(index: Option<u32>, mark: u32, nbits: u32) -> Result<SideInfo, Malformed>
+    ensures { result ≡ side_of (Ok index) (Ok mark) (Ok nbits) }
 {
-    match pitch {
-        Field::Malformed => Side::Malformed,
-        Field::Number(index) => Side::Info(SideInfo {
-            pitch: PitchRecord::Present(Present { index, active }),
-            nbits,
-        }),
-        Field::Dash => {
-            if active {
-                return Side::Malformed;
-            }
-            Side::Info(SideInfo {
-                pitch: PitchRecord::Absent,
-                nbits,
-            })
-        }
-    }
-}
-
-// The same where the mark and the number are as they were read: the mark is 0 or 1.
-fn side_of(pitch: Field, active: Number, nbits: Number) -> Side
-    ensures { result ≡ side_of pitch active nbits }
-{
-    let Number::Value(mark) = active else {
-        return Side::Malformed;
-    };
-    let Number::Value(bits) = nbits else {
-        return Side::Malformed;
-    };
     if mark > 1 {
-        return Side::Malformed;
+        return Err(Malformed);
     }
-    side_with(pitch, mark == 1, bits)
+    side_with(index, mark == 1, nbits)
 }
 
 // What stands after the pitch: the mark, of one digit, and the number of bits.
-fn read_marks(pitch: Field, rest: &[u8]) -> Side
-    ensures { result ≡ marks_read pitch rest.now }
+#[tactic(auto, unfolding(crate::specs::Sides::marks_read))]
+fn read_marks(index: Option<u32>, rest: &[u8]) -> Result<SideInfo, Malformed>
+    ensures { result ≡ marks_read (Ok index) rest.now }
 {
-    let tab = first_tab(rest);
-    if tab >= rest.len() {
-        return Side::Malformed;
-    }
-    let active = read_number(&rest[..tab], 1);
-    let nbits = read_number(&rest[tab + 1..], 9);
-    side_of(pitch, active, nbits)
+    let (mark, nbits) = split_at_tab(rest).ok_or(Malformed)?;
+    side_of(index, read_number(mark, 1)?, read_number(nbits, 9)?)
 }
 
 // The three fields: all are needed, and nothing else may stand there.
-pub fn read_side(text: &[u8]) -> Side
+#[tactic(auto, using(crate::proofs::LongLines::no_pitch_field), unfolding(crate::specs::Sides::side_read))]
+pub fn read_side(text: &[u8]) -> Result<SideInfo, Malformed>
     ensures { result ≡ side_read text.now }
 {
-    let tab = first_tab(text);
-    if tab >= text.len() {
-        return Side::Malformed;
-    }
-    let pitch = read_field(&text[..tab], 9);
-    read_marks(pitch, &text[tab + 1..])
+    let (pitch, rest) = split_at_tab(text).ok_or(Malformed)?;
+    read_marks(read_field(pitch, 9)?, rest)
 }

@@ -4,22 +4,23 @@ use mathlib.Core.Path.{◌≡◌, refl, sym, ◌∙◌}
 use mathlib.Core.List.{List}
 use native.Mathlib.Nat.{add-zero}
 use native.Mathlib.Omega.{arith}
-use lib.ListN.{length, take, drop, length-drop}
-use lib.Seq.{get_or-take, length-take-le, take-take}
+use lib.ListN.{length, take}
+use lib.Seq.{get_or-take, length-take-le}
 use lib.Ieee.{Float, nan}
 use Rattle.floats.specs.Single.{◌⊖◌, ◌⊗◌, 0·0, at}
-use Rattle.lanes.specs.Lanes.{all, listed, fir_added, Lane, l0, l1, l2, l3, l4, l5, l6, l7, place, lane, added, taken}
+use Rattle.lanes.specs.Lanes.{all, listed, fir_added, joined, Lane, l0, l1, l2, l3, l4, l5, l6, l7, place, lane, added, taken}
 use Rattle.lanes.specs.declared.Lanes.{Lanes}
-use Rattle.lanes.proofs.EachLane.{lane_all, fir_added_lem, fir_taken_lem}
+use Rattle.lanes.proofs.EachLane.{place_few, by_lanes, lane_all, fir_added_lem, fir_taken_lem}
 use Rattle.filter.specs.Filter.{num_sum, den_sum, F}
 use Rattle.filter.specs.Fade.{grow, grown, steady, faded, factor}
 use Rattle.slices.specs.Slices.{placed}
 use Rattle.slices.proofs.Stored.{placed_stored}
-use Rattle.filter.specs.Blocks.{sums, less, weighed, weighed_in, next_in, Within, padded}
+use Rattle.filter.specs.Blocks.{sums, less, weighed, weighed_in, next_in, padded}
+use Rattle.filter.specs.Kept.{used_num, used_den, nearest}
 use Rattle.filter.specs.Required.{Inside}
-use Rattle.coefficients.specs.Coefficients.{Filter, read_out}
+use Rattle.coefficients.specs.Coefficients.{Filter}
 use Rattle.filter.specs.declared.fade.Direction.{Direction}
-use Rattle.filter.specs.declared.fade.Weighting.{Weighting}
+use Rattle.std.proofs.Common.{Option, Some, None}
 use Rattle.filter.proofs.Growing.{length_outputs, length_grown, take_grow, take_made, grown_after}
 use Rattle.filter.proofs.Reading.{F-take}
 use Rattle.filter.proofs.Padded.{at_padded}
@@ -44,33 +45,10 @@ lane_weighed l5 direction fade n s = refl
 lane_weighed l6 direction fade n s = refl
 lane_weighed l7 direction fade n s = refl
 
-place_few : (l : Lane) → place l < 8
-place_few l0 = omega arith
-place_few l1 = omega arith
-place_few l2 = omega arith
-place_few l3 = omega arith
-place_few l4 = omega arith
-place_few l5 = omega arith
-place_few l6 = omega arith
-place_few l7 = omega arith
-
--- a fact of every lane is one of every place in the row
-by_lanes : (s : Lanes) (want : ℕ → Float) → ((l : Lane) → lane l s ≡ want (place l)) → (j : ℕ) → j < length (listed s) → at (listed s) j ≡ want j
-unfolding listed
-by_lanes s want h zero l = h l0
-by_lanes s want h (suc zero) l = h l1
-by_lanes s want h (suc (suc zero)) l = h l2
-by_lanes s want h (suc (suc (suc zero))) l = h l3
-by_lanes s want h (suc (suc (suc (suc zero)))) l = h l4
-by_lanes s want h (suc (suc (suc (suc (suc zero))))) l = h l5
-by_lanes s want h (suc (suc (suc (suc (suc (suc zero)))))) l = h l6
-by_lanes s want h (suc (suc (suc (suc (suc (suc (suc zero))))))) l = h l7
-by_lanes s want h (suc (suc (suc (suc (suc (suc (suc (suc j)))))))) l = absurd (omega arith)
-
 -- the first terms of both sums, with the coefficients that are used
 num_lane : (num x : List Float) (used missing i n : ℕ) → n ≤ used → n ≤ i + 1 →
     added (λ k. at (take used num) k ⊗ at x (i - k)) 0·0 n ≡ num_sum num (padded missing x) (missing + i) n
-unfolding added num_sum
+unfolding joined num_sum
 num_lane num x used missing i zero u h = refl
 num_lane num x used missing i (suc n) u h =
     let e : missing + i - n ≡ missing + (i - n) = omega arith in
@@ -78,43 +56,15 @@ num_lane num x used missing i (suc n) u h =
 
 den_lane : (start : Float) (den y : List Float) (used i n : ℕ) → n ≤ used →
     taken (λ k. at (take used den) k ⊗ at y (i - k)) start n ≡ den_sum start den y i n
-unfolding taken den_sum
+unfolding joined den_sum
 den_lane start den y used i zero u = refl
 den_lane start den y used i (suc n) u = rw (den_lane start den y used i n (omega arith), get_or-take used den n nan u)
-
--- the coefficients that a filter uses, and how far before an output the newest one lies that it is made of
-abbrev pub used_num : Filter → List Float
-used_num t = take (t.l_den - 1) t.c_num
-
-abbrev pub used_den : Filter → List Float
-used_den t = take (t.l_den + 1) t.c_den
-
-abbrev pub nearest : Filter → ℕ
-nearest t = t.lag - t.l_den / 2
 
 -- a filter that can be computed after a history
 pub record Usable (t : Filter) (history : ℕ) : Type 0 where
   pub inside : Inside t history
-  pub nums : length t.c_num ≡ 11
-  pub dens : length t.c_den ≡ 13
-
--- one whose coefficients stand in one array
-module _ (order lag history : ℕ) (coefficients : List Float) (all : length coefficients ≡ 24) (inside : Inside (read_out order lag coefficients) history) where
-  pub usable_array : Usable (read_out order lag coefficients) history
-  usable_array =
-      record {
-        inside = inside;
-        nums = length-take-le 11 coefficients (omega arith);
-        dens = length-take-le 13 (drop 11 coefficients) (simp length-drop (omega arith));
-      }
-
-  pub used_num_lem : take (order - 1) coefficients ≡ used_num (read_out order lag coefficients)
-  used_num_lem = sym (take-take (order - 1) 11 coefficients (omega arith))
-
-  pub used_den_lem : take (order + 12 - 11) (drop 11 coefficients) ≡ used_den (read_out order lag coefficients)
-  used_den_lem =
-      let e : order + 12 - 11 ≡ order + 1 = omega arith in
-      rw e (sym (take-take (order + 1) 13 (drop 11 coefficients) (omega arith)))
+  pub nums : length (used_num t) ≡ t.l_den - 1
+  pub dens : length (used_den t) ≡ t.l_den + 1
 
 module _ (t : Filter) (history : ℕ) (u : Usable t history) (x : List Float) (n : ℕ) (hx : 16 + n + 8 ≤ length x) where
   lane_sums : (y : List Float) → history + n ≤ length y → (l : Lane) →
@@ -122,16 +72,14 @@ module _ (t : Filter) (history : ℕ) (u : Usable t history) (x : List Float) (n
   unfolding sums F
   lane_sums y hy l =
       let few = place_few l in
-      let nums : length (used_num t) ≡ t.l_den - 1 = length-take-le _ t.c_num (omega arith) in
-      let dens : length (used_den t) ≡ t.l_den + 1 = length-take-le _ t.c_den (omega arith) in
       let ix : history - 16 + (16 + n + place l) ≡ history + n + place l = omega arith in
       let iy : history + n - nearest t + place l ≡ history + n + place l + t.l_den / 2 - t.lag = omega arith in
       fir_taken_lem l (fir_added (all 0·0) (used_num t) x (16 + n)) (used_den t) y (history + n - nearest t) (omega arith) (omega arith)
       ∙ rw (
         fir_added_lem l (all 0·0) (used_num t) x (16 + n) hx (omega arith),
         lane_all l 0·0,
-        nums,
-        dens,
+        u.nums,
+        u.dens,
         num_lane t.c_num x (t.l_den - 1) (history - 16) (16 + n + place l) (t.l_den - 1) (omega arith) (omega arith),
         ix,
         iy,
@@ -178,16 +126,16 @@ module _ (t : Filter) (history : ℕ) (u : Usable t history) (x : List Float) (n
         ∙ rw (← e) (grown_after f y first m k (listed s) mk km h (by_lanes s (λ j. f (grow f (take first y) (m + j))) lanes))
 
   -- a block of a run
-  run_made : (weighting : Weighting) (fade : ℕ) (y : List Float) (first m k : ℕ) → first + m ≡ history + n → m ≤ k → k ≤ m + 8 → first + (m + 8) ≤ length y →
-      let line = grown (next_in weighting history fade t (padded (history - 16) x)) y first k in
+  run_made : (fading : Option Direction) (fade : ℕ) (y : List Float) (first m k : ℕ) → first + m ≡ history + n → m ≤ k → k ≤ m + 8 → first + (m + 8) ≤ length y →
+      let line = grown (next_in fading history fade t (padded (history - 16) x)) y first k in
       placed line (history + n)
-      (listed (less x (16 + n) (weighed_in weighting fade n (sums (used_num t) (used_den t) x (16 + n) line (history + n - nearest t))))) ≡
-      grown (next_in weighting history fade t (padded (history - 16) x)) y first (m + 8)
+      (listed (less x (16 + n) (weighed_in fading fade n (sums (used_num t) (used_den t) x (16 + n) line (history + n - nearest t))))) ≡
+      grown (next_in fading history fade t (padded (history - 16) x)) y first (m + 8)
   unfolding steady faded
-  run_made Weighting.Steady fade y first m k e mk km h =
+  run_made None fade y first m k e mk km h =
       let f = steady t (padded (history - 16) x) in
       block f y first m k e mk km h _ (λ l. rw (lane_less l, x_made f y first m k e mk km h l, F-made f y first m k e mk km h l))
-  run_made (Weighting.Fade direction) fade y first m k e mk km h =
+  run_made (Some direction) fade y first m k e mk km h =
       let f = faded direction history fade t (padded (history - 16) x) in
       block f y first m k e mk km h _
       (λ l.
@@ -195,15 +143,10 @@ module _ (t : Filter) (history : ℕ) (u : Usable t history) (x : List Float) (n
       rw (lane_less l, lane_weighed l, x_made f y first m k e mk km h l, F-made f y first m k e mk km h l, in_fade))
 
   -- the same, by what a turn of the loop has made on the way
-  pub turn_made : (weighting : Weighting) (fade : ℕ) (y : List Float) (first m k next : ℕ) → first + m ≡ history + n → m ≤ k → k ≤ m + 8 → first + (m + 8) ≤ length y →
+  pub turn_made : (fading : Option Direction) (fade : ℕ) (y : List Float) (first m k next : ℕ) → first + m ≡ history + n → m ≤ k → k ≤ m + 8 → first + (m + 8) ≤ length y →
       (num den line line' : List Float) (back : ℕ) (filt faded out : Lanes) → num ≡ used_num t → den ≡ used_den t → back ≡ nearest t → next ≡ m + 8 →
-      line ≡ grown (next_in weighting history fade t (padded (history - 16) x)) y first k →
-      filt ≡ sums num den x (16 + n) line (history + n - back) → faded ≡ weighed_in weighting fade n filt → out ≡ less x (16 + n) faded →
-      line' ≡ placed line (history + n) (listed out) → line' ≡ grown (next_in weighting history fade t (padded (history - 16) x)) y first next
-  turn_made weighting fade y first m k next e mk km h num den line line' back filt faded out en ed eb ex el ef ew eo es =
-      es ∙ rw (eo, ew, ef, en, ed, eb, el, ex) (run_made weighting fade y first m k e mk km h)
-
--- a run that ends earlier is within the fade too
-pub within_less : (weighting : Weighting) (fade early late : ℕ) → early ≤ late → Within weighting fade late → Within weighting fade early
-within_less Weighting.Steady fade early late h w = w
-within_less (Weighting.Fade direction) fade early late h w = omega arith
+      line ≡ grown (next_in fading history fade t (padded (history - 16) x)) y first k →
+      filt ≡ sums num den x (16 + n) line (history + n - back) → faded ≡ weighed_in fading fade n filt → out ≡ less x (16 + n) faded →
+      line' ≡ placed line (history + n) (listed out) → line' ≡ grown (next_in fading history fade t (padded (history - 16) x)) y first next
+  turn_made fading fade y first m k next e mk km h num den line line' back filt faded out en ed eb ex el ef ew eo es =
+      es ∙ rw (eo, ew, ef, en, ed, eb, el, ex) (run_made fading fade y first m k e mk km h)

@@ -1,12 +1,11 @@
 -- What the functions that make eight outputs side by side promise. Of public functions only `filter_frame`, which asks, names any of it (`padded`).
-use Rattle.std.specs.Prelude.{ℕ, ◌+◌, ◌≤◌, List, ◌++◌, Float, replicate}
+use Rattle.std.specs.Prelude.{ℕ, ◌+◌, ◌≤◌, List, ◌++◌, Float, replicate, Option, Some, None}
 use Rattle.floats.specs.Single.{◌⊖◌, ◌⊗◌, 0·0, at}
 use Rattle.lanes.specs.Lanes.{all, fir_added, fir_taken}
 use Rattle.lanes.specs.declared.Lanes.{Lanes}
 use Rattle.filter.specs.Fade.{factor, steady, faded}
 use Rattle.coefficients.specs.Coefficients.{Filter}
 use Rattle.filter.specs.declared.fade.Direction.{Direction}
-use Rattle.filter.specs.declared.fade.Weighting.{Weighting}
 
 -- both sums of the filter, for eight samples of x from i on and of y from j on
 unfoldable pub sums : List Float → List Float → List Float → ℕ → List Float → ℕ → Lanes
@@ -38,20 +37,20 @@ weighed direction fade n s = record {
   s7 = s.s7 ⊗ factor direction fade (n + 7);
 }
 
--- a weighting multiplies by the factors of the fade, or leaves these as they are
-abbrev pub weighed_in : Weighting → ℕ → ℕ → Lanes → Lanes
-weighed_in Weighting.Steady fade n s = s
-weighed_in (Weighting.Fade direction) fade n s = weighed direction fade n s
+-- these, each times its factor where the run fades, and else as they are
+abbrev pub weighed_in : Option Direction → ℕ → ℕ → Lanes → Lanes
+weighed_in None fade n s = s
+weighed_in (Some direction) fade n s = weighed direction fade n s
 
 -- the next output, so weighted
-abbrev pub next_in : Weighting → ℕ → ℕ → Filter → List Float → List Float → Float
-next_in Weighting.Steady history fade filter x = steady filter x
-next_in (Weighting.Fade direction) history fade filter x = faded direction history fade filter x
+abbrev pub next_in : Option Direction → ℕ → ℕ → Filter → List Float → List Float → Float
+next_in None history fade filter x = steady filter x
+next_in (Some direction) history fade filter x = faded direction history fade filter x
 
 -- outputs that are faded end within the fade
-abbrev pub Within : Weighting → ℕ → ℕ → Type 0
-Within Weighting.Steady fade end = Unit
-Within (Weighting.Fade direction) fade end = end ≤ fade
+abbrev pub Within : Option Direction → ℕ → ℕ → Type 0
+Within None fade end = Unit
+Within (Some direction) fade end = end ≤ fade
 
 -- a line with so many samples of 0.0 in front, instead of those that it lacks
 unfoldable pub padded : ℕ → List Float → List Float

@@ -2,14 +2,15 @@
 ghost use Rattle.std.specs.Prelude.{◌≡◌, ◌+◌, ◌≤◌, length};
 ghost use Rattle.filter.specs.Blocks.{sums, less};
 
-use lanes::{Lanes, add_fir, starting_at, sub_fir};
+use lanes::{Added, Lanes, Taken, fir, starting_at};
 
 // The filter's two sums for eight samples: x from i on, and y from j on.
+#[tactic(auto, unfolding(crate::specs::Blocks::sums))]
 pub(crate) fn filter_8(num: &[f32], den: &[f32], x: &[f32], i: usize, y: &[f32], j: usize) -> Lanes
     ensures { result ≡ sums num.now den.now x.now i y.now j }
 {
-    let sum = add_fir(starting_at(0.0), num, x, i);
-    sub_fir(sum, den, y, j)
+    let sum = fir::<Added>(starting_at(0.0), num, x, i);
+    fir::<Taken>(sum, den, y, j)
 }
 
 // Eight samples of x from i on, less these.

@@ -2,12 +2,13 @@
 // samples back, so eight can be made side by side. Where eight does not divide their number, the last
 // block begins inside the one before it and makes some outputs again, with the same bits.
 ghost use Rattle.std.specs.Prelude.{◌≡◌, ◌+◌, ◌-◌, ◌*◌, ◌≤◌, ◌<◌, min, length};
-ghost use Rattle.coefficients.specs.Coefficients.{read_out};
+ghost use Rattle.filter.specs.Kept.{kept_as};
 ghost use Rattle.filter.specs.Required.{Inside};
 ghost use Rattle.filter.specs.Fade.{factor, grown};
 ghost use Rattle.filter.specs.Blocks.{weighed, weighed_in, next_in, Within, padded};
 
 use crate::block::{filter_8, less_8};
+use crate::kept::{KeptFilter, Spans};
 use lanes::{Lanes, store};
 
 // A filter fades in by n / fade, and out by one less that.
@@ -17,20 +18,11 @@ pub enum Direction {
     Out,
 }
 
-// How the filter is weighted in a run of outputs: not at all, or by the factors of a fade.
-#[derive(Clone, Copy)]
-pub enum Weighting {
-    Steady,
-    Fade(Direction),
-}
-
 // The factor of a fade at its sample n.
-fn fade_factor(direction: Direction, n: usize, fade: usize) -> f32
-    requires { (n < 65536) × (fade < 65536) }
+#[tactic(auto, unfolding(crate::specs::Fade::factor))]
+fn fade_factor(direction: Direction, n: u16, fade: u16) -> f32
     ensures { result ≡ factor direction fade n }
 {
-    let n = n as u16;
-    let fade = fade as u16;
     let f = n as f32 / fade as f32;
     match direction {
         Direction::In => f,
@@ -39,8 +31,8 @@ fn fade_factor(direction: Direction, n: usize, fade: usize) -> f32
 }
 
 // Eight values, each times its factor: the first is at sample n of the fade.
-fn weigh_8(direction: Direction, n: usize, fade: usize, s: Lanes) -> Lanes
-    requires { (n + 8 ≤ fade) × (fade < 65536) }
+fn weigh_8(direction: Direction, n: u16, fade: u16, s: Lanes) -> Lanes
+    requires { n + 8 ≤ fade }
     ensures { result ≡ weighed direction fade n s }
 {
     Lanes {
@@ -55,14 +47,14 @@ fn weigh_8(direction: Direction, n: usize, fade: usize, s: Lanes) -> Lanes
     }
 }
 
-// Eight values, weighted so: the first is at sample n of the frame.
-fn weigh_in(weighting: Weighting, n: usize, fade: usize, s: Lanes) -> Lanes
-    requires { Within weighting fade (n + 8) × (fade < 65536) }
-    ensures { result ≡ weighed_in weighting fade n s }
+// Eight values, weighted by the factors of a fade or not at all: the first is at sample n of the frame.
+fn weigh_in(fading: Option<Direction>, n: usize, fade: u16, s: Lanes) -> Lanes
+    requires { Within fading fade (n + 8) }
+    ensures { result ≡ weighed_in fading fade n s }
 {
-    match weighting {
-        Weighting::Steady => s,
-        Weighting::Fade(direction) => weigh_8(direction, n, fade, s),
+    match fading {
+        None => s,
+        Some(direction) => weigh_8(direction, n as u16, fade, s),
     }
 }
 
@@ -71,41 +63,36 @@ fn block_start(b: usize, len: usize) -> usize
     requires { (8 * b ≤ len) × (8 ≤ len) }
     ensures { result ≡ min (8 * b) (len - 8) }
 {
-    let n = 8 * b;
-    let last = len - 8;
-    if n < last {
-        return n;
-    }
-    last
+    (8 * b).min(len - 8)
 }
 
-// Makes `len` outputs of a frame, from output `from` on, by a filter of this order and lag whose 11 numerator
-// and 13 denominator coefficients stand one after the other. The lines are x[-16..-1] past inputs, x[0..nf-1]
-// this frame; y[-history..-1] past outputs, y[0..nf-1] this frame. Output n reads no output after n − back.
+// Makes `len` outputs of a frame by a filter, from output `from` on, which fade or not. The lines are x[-16..-1] past
+// inputs, x[0..nf-1] this frame; y[-history..-1] past outputs, y[0..nf-1] this frame. Output n reads no output after
+// n − back.
 pub(crate) fn filter_run(
-    weighting: Weighting,
-    coefficients: &[f32],
-    l_den: usize,
-    lag: usize,
+    fading: Option<Direction>,
+    filter: KeptFilter,
     x: &[f32],
     y: &mut [f32],
-    history: usize,
-    fade: usize,
+    spans: Spans,
     from: usize,
     len: usize,
 )
-    requires { (length coefficients.now ≡ 24) × Inside (read_out l_den lag coefficients.now) history × Within weighting fade (from + len) × (fade < 65536) × (8 ≤ len) × (16 + from + len ≤ length x.now) × (history + from + len ≤ length y.old) }
-    ensures { y.new ≡ grown (next_in weighting history fade (read_out l_den lag coefficients.now) (padded (history - 16) x.now)) y.old (history + from) len }
+    requires { Inside (kept_as filter) spans.history × Within fading spans.fade (from + len) × (spans.fade < 65536) × (8 ≤ len) × (16 + from + len ≤ length x.now) × (spans.history + from + len ≤ length y.old) }
+    ensures { y.new ≡ grown (next_in fading spans.history spans.fade (kept_as filter.entry) (padded (spans.history - 16) x.now)) y.old (spans.history + from) len }
 {
-    let back = lag - l_den / 2;
-    let num = &coefficients[..l_den - 1];
-    let den = &coefficients[11..l_den + 12];
-    for b in 0..(len + 7) / 8 {
+    let history = spans.history;
+    let fade = spans.fade as u16;
+    let num = filter.num();
+    let den = filter.den();
+    let back = filter.nearest();
+    // By their number, since the last block may begin inside the one before it.
+    for b in 0..len.div_ceil(8) {
         let n = from + block_start(b, len);
         let i = 16 + n;
         let at = history + n;
         let filt_out = filter_8(num, den, x, i, y, at - back);
-        let out = less_8(x, i, weigh_in(weighting, n, fade, filt_out));
+        let out = less_8(x, i, weigh_in(fading, n, fade, filt_out));
         store(y, at, out);
     }
 }

@@ -3,4 +3,5 @@
 
 mod block;
 mod fade;
+pub mod kept;
 pub mod transition;

@@ -1,15 +1,16 @@
 // The five transitions from one frame to the next.
 ghost use Rattle.std.specs.Prelude.{◌≡◌, ◌-◌, ◌≤◌, length, take};
-ghost use Rattle.coefficients.specs.Coefficients.{read_out};
 ghost use Rattle.filter.specs.Blocks.{padded};
+ghost use Rattle.filter.specs.Kept.{kept_as};
 ghost use Rattle.filter.specs.Required.{Inside, Lines, Readable};
 ghost use Rattle.filter.specs.Transition.{transition_of, outputs, case_activated, case_deactivated, case_pitch_kept, case_pitch_changed};
 
-use crate::fade::{Direction, Weighting, filter_run};
+use crate::fade::{Direction, filter_run};
+use crate::kept::{KeptFilter, Spans};
 use lag::rescale::Lag;
 use slices::put;
 
-#[derive(Clone, Copy)]
+#[derive(Clone, Copy, PartialEq, Eq)]
 pub enum Transition {
     // First case: inactive -> inactive
     Inactive,
@@ -23,127 +24,63 @@ pub enum Transition {
     ActivePitchChanged,
 }
 
+// The case of a frame, with the filter of the previous frame and that of this one.
+#[derive(Clone, Copy)]
+pub struct Case<'a> {
+    pub transition: Transition,
+    pub old: KeptFilter<'a>,
+    pub new: KeptFilter<'a>,
+}
+
 // The case of a frame, by the previous frame, this one and their lags.
+#[tactic(auto, unfolding(crate::specs::Transition::transition_of))]
 pub fn transition_of(active_prev: bool, active: bool, lag_prev: Lag, lag: Lag) -> Transition
     ensures { result ≡ transition_of active_prev active lag_prev lag }
 {
-    if active_prev {
-        if active {
-            if lag_prev.whole == lag.whole {
-                if lag_prev.quarter == lag.quarter {
-                    return Transition::ActiveNoPitchChange;
-                }
-            }
-            return Transition::ActivePitchChanged;
-        }
-        return Transition::Deactivated;
+    match (active_prev, active) {
+        (false, false) => Transition::Inactive,
+        (false, true) => Transition::Activated,
+        (true, false) => Transition::Deactivated,
+        (true, true) if lag_prev == lag => Transition::ActiveNoPitchChange,
+        (true, true) => Transition::ActivePitchChanged,
     }
-    if active {
-        return Transition::Activated;
-    }
-    Transition::Inactive
 }
 
-// A filter's 11 numerator and 13 denominator coefficients stand one after the other. In what follows the lines
-// are x[-16..-1] past inputs, x[0..nf-1] this frame; y[-history..-1] past outputs, y[0..nf-1] this frame's inputs,
-// whose place its outputs take.
+// In what follows the lines are x[-16..-1] past inputs, x[0..nf-1] this frame; y[-history..-1] past outputs,
+// y[0..nf-1] this frame's inputs, whose place its outputs take.
 
 // Second case: the new filter fades in.
-fn activated(
-    new: &[f32],
-    l_den: usize,
-    lag: usize,
-    x: &[f32],
-    y: &mut [f32],
-    history: usize,
-    fade: usize,
-)
-    requires { Lines fade history x.now y.old × (length new.now ≡ 24) × Inside (read_out l_den lag new.now) history }
-    ensures { y.new ≡ case_activated (read_out l_den lag new.now) fade (padded (history - 16) x.now) (take history y.old) }
+#[tactic(auto, using(crate::proofs::Cases::activated_line))]
+fn activated(new: KeptFilter, x: &[f32], y: &mut [f32], spans: Spans)
+    requires { Lines spans.fade spans.history x.now y.old × Inside (kept_as new) spans.history }
+    ensures { y.new ≡ case_activated (kept_as new.entry) spans.fade (padded (spans.history - 16) x.now) (take spans.history y.old) }
 {
+    let fade = spans.fade;
     let rest = x.len() - 16 - fade;
-    filter_run(
-        Weighting::Fade(Direction::In),
-        new,
-        l_den,
-        lag,
-        x,
-        y,
-        history,
-        fade,
-        0,
-        fade,
-    );
-    filter_run(
-        Weighting::Steady,
-        new,
-        l_den,
-        lag,
-        x,
-        y,
-        history,
-        fade,
-        fade,
-        rest,
-    );
+    filter_run(Some(Direction::In), new, x, y, spans, 0, fade);
+    filter_run(None, new, x, y, spans, fade, rest);
 }
 
 // Third case: the old filter fades out.
-fn deactivated(
-    old: &[f32],
-    l_den: usize,
-    lag: usize,
-    x: &[f32],
-    y: &mut [f32],
-    history: usize,
-    fade: usize,
-)
-    requires { Lines fade history x.now y.old × (length old.now ≡ 24) × Inside (read_out l_den lag old.now) history }
-    ensures { y.new ≡ case_deactivated (read_out l_den lag old.now) fade (padded (history - 16) x.now) (take history y.old) }
+#[tactic(auto, using(crate::proofs::Cases::deactivated_line))]
+fn deactivated(old: KeptFilter, x: &[f32], y: &mut [f32], spans: Spans)
+    requires { Lines spans.fade spans.history x.now y.old × Inside (kept_as old) spans.history }
+    ensures { y.new ≡ case_deactivated (kept_as old.entry) spans.fade (padded (spans.history - 16) x.now) (take spans.history y.old) }
 {
-    filter_run(
-        Weighting::Fade(Direction::Out),
-        old,
-        l_den,
-        lag,
-        x,
-        y,
-        history,
-        fade,
-        0,
-        fade,
-    );
+    filter_run(Some(Direction::Out), old, x, y, spans, 0, spans.fade);
 }
 
 // Fourth case: the new filter throughout.
-fn pitch_kept(
-    new: &[f32],
-    l_den: usize,
-    lag: usize,
-    x: &[f32],
-    y: &mut [f32],
-    history: usize,
-    fade: usize,
-)
-    requires { Lines fade history x.now y.old × (length new.now ≡ 24) × Inside (read_out l_den lag new.now) history }
-    ensures { y.new ≡ case_pitch_kept (read_out l_den lag new.now) (padded (history - 16) x.now) (take history y.old) }
+fn pitch_kept(new: KeptFilter, x: &[f32], y: &mut [f32], spans: Spans)
+    requires { Lines spans.fade spans.history x.now y.old × Inside (kept_as new) spans.history }
+    ensures { y.new ≡ case_pitch_kept (kept_as new.entry) (padded (spans.history - 16) x.now) (take spans.history y.old) }
 {
     let all = x.len() - 16;
-    filter_run(
-        Weighting::Steady,
-        new,
-        l_den,
-        lag,
-        x,
-        y,
-        history,
-        fade,
-        0,
-        all,
-    );
+    filter_run(None, new, x, y, spans, 0, all);
 }
 
 // A copy of a line, at the front of a new one.
+#[tactic(auto, using(slices::proofs::Stored::take_placed))]
 fn set_aside(y: &[f32]) -> [f32; 136]
     requires { length y.now ≤ 136 }
     ensures { take (length y.now) result ≡ y.now }
@@ -155,83 +92,30 @@ fn set_aside(y: &[f32]) -> [f32; 136]
 
 // Fifth case: the old filter fades out and gives z, and over z the new one fades in. The numerators
 // read z, which is set aside; y takes its place from the left, so the denominators read y.
-fn pitch_changed(
-    old: &[f32],
-    old_lag: usize,
-    new: &[f32],
-    lag: usize,
-    l_den: usize,
-    x: &[f32],
-    y: &mut [f32],
-    history: usize,
-    fade: usize,
-)
-    requires { Lines fade history x.now y.old × (length old.now ≡ 24) × Inside (read_out l_den old_lag old.now) history × (length new.now ≡ 24) × Inside (read_out l_den lag new.now) history }
-    ensures { y.new ≡ case_pitch_changed (read_out l_den old_lag old.now) (read_out l_den lag new.now) fade (padded (history - 16) x.now) (take history y.old) }
+fn pitch_changed(old: KeptFilter, new: KeptFilter, x: &[f32], y: &mut [f32], spans: Spans)
+    requires { Lines spans.fade spans.history x.now y.old × Inside (kept_as old) spans.history × Inside (kept_as new) spans.history }
+    ensures { y.new ≡ case_pitch_changed (kept_as old.entry) (kept_as new.entry) spans.fade (padded (spans.history - 16) x.now) (take spans.history y.old) }
 {
-    filter_run(
-        Weighting::Fade(Direction::Out),
-        old,
-        l_den,
-        old_lag,
-        x,
-        y,
-        history,
-        fade,
-        0,
-        fade,
-    );
+    let Spans { history, fade } = spans;
+    filter_run(Some(Direction::Out), old, x, y, spans, 0, fade);
     let z = set_aside(&y[history - 16..history + fade]);
-    filter_run(
-        Weighting::Fade(Direction::In),
-        new,
-        l_den,
-        lag,
-        &z[..16 + fade],
-        y,
-        history,
-        fade,
-        0,
-        fade,
-    );
+    filter_run(Some(Direction::In), new, &z[..16 + fade], y, spans, 0, fade);
     let rest = x.len() - 16 - fade;
-    filter_run(
-        Weighting::Steady,
-        new,
-        l_den,
-        lag,
-        x,
-        y,
-        history,
-        fade,
-        fade,
-        rest,
-    );
+    filter_run(None, new, x, y, spans, fade, rest);
 }
 
-// The outputs of a frame, by its case.
-pub fn filter_frame(
-    transition: Transition,
-    old: &[f32],
-    old_lag: usize,
-    new: &[f32],
-    lag: usize,
-    l_den: usize,
-    x: &[f32],
-    y: &mut [f32],
-    history: usize,
-    fade: usize,
-)
-    requires { Lines fade history x.now y.old × (length old.now ≡ 24) × (length new.now ≡ 24) × Readable transition (read_out l_den old_lag old.now) (read_out l_den lag new.now) history }
-    ensures { y.new ≡ outputs transition (read_out l_den old_lag old.now) (read_out l_den lag new.now) fade (padded (history - 16) x.now) (take history y.old) }
+// The outputs of a frame, by its case. Clauses and no types ask for what the lines and the filters are: y holds the
+// inputs only before the call, and a filter that the case does not use may be any.
+#[tactic(auto, unfolding(crate::specs::Transition::outputs))]
+pub fn filter_frame(case: Case, x: &[f32], y: &mut [f32], spans: Spans)
+    requires { Lines spans.fade spans.history x.now y.old × Readable case.transition (kept_as case.old) (kept_as case.new) spans.history }
+    ensures { y.new ≡ outputs case.entry.transition (kept_as case.entry.old) (kept_as case.entry.new) spans.fade (padded (spans.history - 16) x.now) (take spans.history y.old) }
 {
-    match transition {
+    match case.transition {
         Transition::Inactive => {}
-        Transition::Activated => activated(new, l_den, lag, x, y, history, fade),
-        Transition::Deactivated => deactivated(old, l_den, old_lag, x, y, history, fade),
-        Transition::ActiveNoPitchChange => pitch_kept(new, l_den, lag, x, y, history, fade),
-        Transition::ActivePitchChanged => {
-            pitch_changed(old, old_lag, new, lag, l_den, x, y, history, fade)
-        }
+        Transition::Activated => activated(case.new, x, y, spans),
+        Transition::Deactivated => deactivated(case.old, x, y, spans),
+        Transition::ActiveNoPitchChange => pitch_kept(case.new, x, y, spans),
+        Transition::ActivePitchChanged => pitch_changed(case.old, case.new, x, y, spans),
     }
 }

@@ -5,10 +5,10 @@ use mathlib.Core.Bool.{Bool, true, false, true≢false, cond, ◌&&◌}
 use mathlib.Core.List.{List}
 use mathlib.Core.Logic.{◌⊎◌, inl, inr}
 use native.Mathlib.Omega.{arith}
-use borrow.Author.Tests.{ltb-true, leb-true, eqb-true, eqb-false, le-ltb}
-use lib.Dec.{T, eqb, leb, ltb}
-use lib.IntN.{ℤ, pos, negsuc, nat_abs, ◌+ℤ◌, pos-ne-negsuc}
-use lib.Signed.{mag, non_neg, lt_z, le_z}
+use borrow.Author.Tests.{ltb-true, leb-true, eqb-true, eqb-false}
+use lib.Dec.{eqb, leb, ltb}
+use lib.IntN.{ℤ, pos, negsuc, nat_abs, pos-ne-negsuc}
+use lib.Signed.{mag, le_z}
 use lib.Ieee.{Float, lt}
 use lib.ListN.{length}
 use Rattle.floats.specs.Single.{at}
@@ -16,23 +16,10 @@ use Rattle.lag.specs.Lag.{quarters, index_of}
 use Rattle.lag.proofs.Lags.{index_min, lag_index_lag}
 use Rattle.found.specs.Taps.{turn}
 use Rattle.found.specs.declared.lag_parameter.LagParameter.{LagParameter}
-use Rattle.found.specs.LagParameter.{k_min, k_max, whole_search, whole_entry, interpolated, looked_at, fraction_search, fraction_of, coded, carried, lag_among, lag_parameter}
+use Rattle.found.specs.LagParameter.{k_min, k_max, whole_search, whole_entry, interpolated, looked_at, fraction_search, fraction_of, carried, lag_among, lag_parameter}
 use Rattle.search.specs.Correlate.{correlated}
 use Rattle.found.proofs.Turns.{mag_turn}
 use Rattle.search.proofs.Correlates.{correlated_length}
-
--- a negative fraction and four
-pub negative : (z : ℤ) → mag z ≤ 3 → lt_z z (pos 0) ≡ true → (T (non_neg (z +ℤ pos 4))) × (nat_abs (z +ℤ pos 4) ≡ 3 - mag z)
-negative (pos n) h e = absurd (omega (arith, ltb-true n 0 e))
-negative (negsuc n) h e = rw (le-ltb 4 (suc n) (omega arith)) (tt, omega arith)
-
-pub carried_below : (whole : ℕ) (z : ℤ) → lt_z z (pos 0) ≡ true → carried whole z ≡ coded (whole - 1) (3 - mag z)
-carried_below whole (pos n) e = absurd (omega (arith, ltb-true n 0 e))
-carried_below whole (negsuc n) e = refl
-
-pub carried_above : (whole : ℕ) (z : ℤ) → lt_z z (pos 0) ≡ false → (T (non_neg z)) × (carried whole z ≡ coded whole (nat_abs z))
-carried_above whole (pos n) e = (tt, refl)
-carried_above whole (negsuc n) e = absurd (true≢false e)
 
 -- the whole lags lie between 32 and 228, at least one of them and at most nine
 pub lag_bounds : (t : ℕ) → 17 ≤ t → t ≤ 114 → (32 ≤ k_min t) × (k_min t ≤ k_max t) × (k_max t ≤ 228) × (k_max t ≤ k_min t + 8)

@@ -1,24 +1,40 @@
--- What the test before the search for a lag says.
+-- Where the test before the search for a lag fails, and where it does not.
 use Prim.Native.Nat.{◌≤◌}
-use mathlib.Core.Path.{◌≡◌}
-use mathlib.Core.Bool.{true, ◌&&◌}
+use mathlib.Core.Path.{◌≡◌, refl}
+use mathlib.Core.Bool.{Bool, true, false, ◌&&◌}
 use mathlib.Core.List.{List}
-use borrow.Author.Tests.{leb-true, eqb-true}
-use lib.Dec.{eqb, leb}
+use borrow.Author.Tests.{leb-true, eq-eqb, ne_eqb}
+use lib.Dec.{leb}
 use lib.Ieee.{Float}
 use lib.ListN.{length}
 use Rattle.rates.proofs.Known.{both}
 use Rattle.search.specs.declared.pitch.Detected.{Detected}
 use Rattle.found.specs.Found.{ready}
 
-pub record Ready (d : Detected) (k s : List Float) : Type 0 where
-  pub lag : (17 ≤ d.t_curr) × (d.t_curr ≤ 114)
-  pub tables : (length k ≡ 31) × (length s ≡ 15)
+off : (a b : Bool) → (a && false && b) ≡ false
+off true b = refl
+off false b = refl
 
-pub ready_facts : (d : Detected) (k s : List Float) → ready d k s ≡ true → Ready d k s
+last : (a : Bool) → (a && false) ≡ false
+last true = refl
+last false = refl
+
+-- a table has not its length
+pub first_unready : (d : Detected) (k s : List Float) → (length k ≡ 31 → ⊥) → ready d k s ≡ false
 unfolding ready
-ready_facts d k s e =
-    let a = both (d.present && leb 17 d.t_curr && leb d.t_curr 114 && eqb (length k) 31) (eqb (length s) 15) e in
-    let b = both (d.present && leb 17 d.t_curr && leb d.t_curr 114) (eqb (length k) 31) a.0 in
-    let c = both (d.present && leb 17 d.t_curr) (leb d.t_curr 114) b.0 in
-    record { lag = (leb-true _ _ (both d.present (leb 17 d.t_curr) c.0).1, leb-true _ _ c.1); tables = (eqb-true _ _ b.1, eqb-true _ _ a.1) }
+first_unready d k s h = rw (ne_eqb (length k) 31 h) (off _ _)
+
+pub second_unready : (d : Detected) (k s : List Float) → (length s ≡ 15 → ⊥) → ready d k s ≡ false
+unfolding ready
+second_unready d k s h = rw (ne_eqb (length s) 15 h) (last _)
+
+-- both have
+pub ready_by : (d : Detected) (k s : List Float) (b : Bool) → length k ≡ 31 → length s ≡ 15 → b ≡ (d.present && leb 17 d.t_curr && leb d.t_curr 114) → ready d k s ≡ (b && true && true)
+unfolding ready
+ready_by d k s b g h e = rw (eq-eqb (length k) 31 g, eq-eqb (length s) 15 h, e)
+
+-- the lag that was detected
+pub ready_lag : (d : Detected) → (d.present && leb 17 d.t_curr && leb d.t_curr 114) ≡ true → (17 ≤ d.t_curr) × (d.t_curr ≤ 114)
+ready_lag d e =
+    let c = both (d.present && leb 17 d.t_curr) (leb d.t_curr 114) e in
+    (leb-true _ _ (both d.present (leb 17 d.t_curr) c.0).1, leb-true _ _ c.1)

@@ -1,15 +1,15 @@
--- Laws of small signed numbers: what the machine reads back from their bits, and positions moved by them.
-use Prim.Native.Nat.{ℕ, zero, suc, ◌+◌, ◌-◌, ◌*◌, ◌/◌, ◌%◌, ◌≤◌, ◌<◌}
+-- Laws of small signed numbers: what the machine reads back from their bits.
+use Prim.Native.Nat.{ℕ, zero, suc, ◌+◌, ◌-◌, ◌*◌, ◌%◌, ◌≤◌, ◌<◌}
 use mathlib.Core.Path.{◌≡◌, refl}
 use mathlib.Core.Bool.{Bool, true, false, cond}
 use native.Mathlib.Omega.{arith}
-use lib.Dec.{T, eqb, ltb}
+use lib.Dec.{eqb, ltb}
 use lib.IntN.{ℤ, pos, negsuc, neg_ℤ, nat_abs, ◌+ℤ◌, ◌-ℤ◌, ◌*ℤ◌, +ℤ_idl}
-use lib.Signed.{mag, non_neg, quot_z, rem_z}
+use lib.Signed.{mag, rem_z}
 use mir.Syntax.{w32}
 use mir.Val.{SFits, to_z, of_z}
 use mir.ValLaws.{to_z-of_z, to_z_pos}
-use Rattle.found.specs.Taps.{moved, offset}
+use Rattle.found.specs.Taps.{offset}
 
 -- a small number fits
 pub small : (z : ℤ) → mag z ≤ 1000 → SFits w32 z
@@ -42,38 +42,10 @@ mag_four : (z : ℤ) → mag (pos 4 *ℤ z) ≤ suc (4 * suc (mag z))
 mag_four (pos n) = omega arith
 mag_four (negsuc n) = omega (arith, mag_neg (pos (4 * suc n)))
 
-pub mag_four_small : (m : ℤ) → mag m ≤ 4 → mag (pos 4 *ℤ m) ≤ 21
-mag_four_small m h = omega (arith, mag_four m)
-
 pub mag_offset : (m d : ℤ) → mag m ≤ 4 → mag d ≤ 3 → mag (offset m d) ≤ 26
 mag_offset m d h k = omega (arith, mag_sum (pos 4 *ℤ m) (neg_ℤ d), mag_four m, mag_neg d)
 
--- a position moved by a number that does not lead below 0
-pub moved_is : (i : ℕ) (z : ℤ) → T (non_neg (pos i +ℤ z)) → nat_abs (pos i +ℤ z) ≡ moved i z
-moved_is i (pos k) h = refl
-moved_is i (negsuc k) h = go (ltb i (suc k)) (suc k - suc i) (i - suc k) h
-  where
-    go : (t : Bool) (x y : ℕ) → T (non_neg (cond t (negsuc x) (pos y))) → nat_abs (cond t (negsuc x) (pos y)) ≡ y
-    go true x y h = absurd h
-    go false x y h = refl
-
-pub mag_moved : (i : ℕ) (z : ℤ) → i ≤ 404 → mag z ≤ 404 → mag (pos i +ℤ z) ≤ 809
-mag_moved i z h k = omega (arith, mag_sum (pos i) z)
-
--- a number without its sign
-pub natAbs-mag : (z : ℤ) → nat_abs z ≤ suc (mag z)
-natAbs-mag (pos n) = omega arith
-natAbs-mag (negsuc n) = omega arith
-
--- a half, cut toward zero, and whether there is a rest
-mag_below : (k : ℕ) → mag (neg_ℤ (pos k)) ≤ k
-mag_below zero = omega arith
-mag_below (suc k) = omega arith
-
-pub mag_half : (z : ℤ) → mag (quot_z z (pos 2)) ≤ mag z
-mag_half (pos n) = omega arith
-mag_half (negsuc n) = omega (arith, mag_below (suc n / 2))
-
+-- whether a number is even, by what the machine leaves over
 pub even_bits : (z : ℤ) → eqb (of_z w32 (rem_z z (pos 2))) 0 ≡ eqb (nat_abs z % 2) 0
 even_bits (pos n) = refl
 even_bits (negsuc n) = go (suc n % 2) (omega arith)

@@ -1,17 +1,17 @@
 -- Laws of a loop whose variable is signed and runs from -(a + 1) to a + 1: the variable z counts the turns that it has passed, of 2 · a + 3.
 use Prim.Native.Nat.{ℕ, zero, suc, ◌+◌, ◌-◌, ◌*◌, ◌≤◌, ◌<◌}
 use mathlib.Core.Path.{◌≡◌, refl, sym, subst, ◌∙◌, ap}
-use mathlib.Core.Bool.{Bool, true, false, true≢false, cond, ◌&&◌}
+use mathlib.Core.Bool.{Bool, true, false, cond}
 use native.Mathlib.Omega.{arith}
 use Rattle.std.proofs.lemmas.Int.{ints}
-use borrow.Author.Tests.{ltb-true, ltb-false, leb-true, leb-false, le-ltb}
+use borrow.Author.Tests.{ltb-true, ltb-false, leb-true, le-ltb}
 use lib.Dec.{T, ltb}
-use lib.IntN.{ℤ, pos, negsuc, neg_ℤ, nat_abs, sub_ℕ, ◌+ℤ◌}
+use lib.IntN.{ℤ, pos, negsuc, neg_ℤ, nat_abs, ◌+ℤ◌}
 use lib.Signed.{mag, non_neg, le_z}
 use mir.Syntax.{w32}
 use mir.Val.{SFits, to_z, of_z}
 use mir.ValLaws.{to_z-of_z}
-use Rattle.found.specs.Taps.{turn, inside, moved}
+use Rattle.found.specs.Taps.{turn, moved}
 use Rattle.found.proofs.Signs.{small, mag_sum}
 
 -- how many turns a loop from -a has passed, by its variable
@@ -48,8 +48,8 @@ pub record Turn (a : ℕ) (z : ℤ) : Type 0 where
 
 module _ (a : ℕ) (z : ℤ) (few : a ≤ 100) (number : z ≡ turn (suc a) (passed (suc a) z)) (within : passed (suc a) z ≤ suc (2 * suc a)) where
   -- in a turn
-  pub in_turn_lem : le_z z (pos (suc a)) ≡ true → Turn a z
-  in_turn_lem test = record { number = number; over = over; size = size; fits = fits; again = rw back (rw next more); next = rw back next }
+  pub in_turn : le_z z (pos (suc a)) ≡ true → Turn a z
+  in_turn test = record { number = number; over = over; size = size; fits = fits; again = rw back (rw next more); next = rw back next }
     where
       over : passed (suc a) z ≤ 2 * suc a
       over =
@@ -73,22 +73,7 @@ module _ (a : ℕ) (z : ℤ) (few : a ≤ 100) (number : z ≡ turn (suc a) (pas
       next : passed (suc a) (z +ℤ pos 1) ≡ suc (passed (suc a) z)
       next = ap (passed (suc a)) more ∙ passed_turn (suc a) (suc (passed (suc a) z))
 
-  -- after the last turn
-  pub all_turns : le_z z (pos (suc a)) ≡ false → passed (suc a) z ≡ suc (2 * suc a)
-  all_turns test =
-      by_sign a (passed (suc a) z) (λ y. le_z y (pos (suc a)) ≡ false → passed (suc a) z ≡ suc (2 * suc a))
-      (λ h t. absurd (true≢false t))
-      (λ h t. omega (arith, leb-false (passed (suc a) z - suc a) (suc a) t))
-      (subst (λ (y : ℤ). le_z y (pos (suc a)) ≡ false) number test)
-
--- a position moved by a turn's number
-pub moved_turn : (i a j : ℕ) → suc a ≤ i → (T (non_neg (pos i +ℤ turn (suc a) j))) × (moved i (turn (suc a) j) ≡ i + j - suc a)
-moved_turn i a j h =
-    by_sign a j (λ z. (T (non_neg (pos i +ℤ z))) × (moved i z ≡ i + j - suc a))
-    (λ u. (rw (le-ltb i (suc (suc a - suc j)) (omega arith)) tt, omega arith))
-    (λ u. (tt, omega arith))
-
--- and moved back by one
+-- a position moved back by a turn's number
 pub back_turn : (i a j : ℕ) → suc a ≤ i → j ≤ 2 * suc a → (T (non_neg (pos i +ℤ neg_ℤ (turn (suc a) j)))) × (moved i (neg_ℤ (turn (suc a) j)) ≡ i + suc a - j)
 back_turn i a j h u =
     by_sign a j (λ z. (T (non_neg (pos i +ℤ neg_ℤ z))) × (moved i (neg_ℤ z) ≡ i + suc a - j))
@@ -98,12 +83,3 @@ back_turn i a j h u =
     go : (k : ℕ) → suc a ≤ j → j - suc a ≡ k → (T (non_neg (pos i +ℤ neg_ℤ (pos k)))) × (moved i (neg_ℤ (pos k)) ≡ i + suc a - j)
     go zero v e = (tt, omega arith)
     go (suc k) v e = (rw (le-ltb i (suc k) (omega arith)) tt, omega arith)
-
--- an offset strictly inside ± (half + 1) is an entry of a table of 2 · half + 1
-pub inside_moved : (half : ℕ) (n : ℤ) → inside (pos (suc half)) n ≡ true → (T (non_neg (pos half +ℤ n))) × (moved half n ≤ 2 * half)
-inside_moved half (pos k) h = (tt, omega (arith, ltb-true k (suc half) h))
-inside_moved half (negsuc k) h = go (ltb k half) refl h
-  where
-    go : (t : Bool) → ltb k half ≡ t → (t && true) ≡ true → (T (non_neg (sub_ℕ half (suc k)))) × (half - suc k ≤ 2 * half)
-    go true e h = (rw (le-ltb half (suc k) (ltb-true k half e)) tt, omega arith)
-    go false e h = absurd (true≢false (sym h))

@@ -1,12 +1,10 @@
 -- Whether the long-term post filter is activated. x is the signal at 12.8 kHz, entry start the delayed frame's first sample, len the frame's length, a lag has
 -- whole samples and f quarters, and h is the signal's interpolation table. Definitions only.
-use Rattle.std.specs.Prelude.{ℕ, zero, suc, ◌+◌, ◌-◌, Bool, false, cond, not, ◌&&◌, ◌||◌, List, ℤ, pos, neg_ℤ, Float}
+use Rattle.std.specs.Prelude.{ℕ, zero, suc, ◌+◌, ◌-◌, Bool, false, cond, not, ◌&&◌, ◌||◌, List, ℤ, pos, neg_ℤ, Float, Option, Some, None}
 use Rattle.std.specs.Float.{nan, inf, fin}
 use Rattle.std.specs.Float.Ieee.{lt, neg}
 use Rattle.floats.specs.Single.{◌⊕◌, ◌⊖◌, ◌⊗◌, ◌⊘◌, 0·0, decimal, float, at}
 use Rattle.root.specs.SquareRoot.{root_of}
-use Rattle.root.specs.declared.Root.{Root}
-use Rattle.root.specs.declared.Root.TheVariants.{Root as found, NoRoot}
 use Rattle.lanes.specs.Sums.{product_sum}
 use Rattle.found.specs.Taps.{turn, offset, inside, moved, plus}
 use Rattle.found.specs.declared.activation.NcSums.{NcSums}
@@ -28,9 +26,9 @@ abbrev pub shifted : List Float → ℕ → ℕ → ℕ → List Float → ℕ �
 shifted x start whole f h n = dotted x (start + n - whole) (pos f) h 5
 
 -- a quotient by a root above 0.0; any other root, and none, gives 0.0
-abbrev pub over_positive : Float → Root → Float
-over_positive num NoRoot = 0·0
-over_positive num (found v) = cond (lt 0·0 v) (num ⊘ v) 0·0
+abbrev pub over_positive : Float → Option Float → Float
+over_positive num None = 0·0
+over_positive num (Some v) = cond (lt 0·0 v) (num ⊘ v) 0·0
 
 -- the sums of the two signals' products over the frame
 abbrev pub sums_of : (ℕ → Float) → (ℕ → Float) → ℕ → NcSums

@@ -1,8 +1,9 @@
 // The lag parameter: the lag at 12.8 kHz to a quarter of a sample, and its index.
 ghost use Rattle.std.specs.Prelude.{◌≡◌, ◌+◌, ◌-◌, ◌≤◌, ◌<◌, length};
 ghost use Rattle.std.specs.Int.Signed.{mag};
-ghost use Rattle.found.specs.LagParameter.{k_min, k_max, whole_entry, interpolated, looked_at, fraction_of, coded, carried, lag_among, lag_parameter};
+ghost use Rattle.found.specs.LagParameter.{whole_entry, interpolated, looked_at, fraction_of, coded, carried, lag_among, lag_parameter};
 
+use crate::delayed::Delayed;
 use crate::taps::{moved, table_offset, with_tap};
 use lag::index::lag_index;
 use search::correlate::correlate;
@@ -15,34 +16,17 @@ pub struct LagParameter {
     pub pitch_fr: u8,
 }
 
-// The smallest whole lag that is looked at.
-fn k_min(t_curr: usize) -> usize
-    requires { (17 ≤ t_curr) × (t_curr ≤ 114) }
-    ensures { result ≡ k_min t_curr }
-{
-    let low = 2 * t_curr - 4;
-    if low < 32 { 32 } else { low }
-}
-
-// The largest whole lag that is looked at.
-fn k_max(t_curr: usize) -> usize
-    requires { (17 ≤ t_curr) × (t_curr ≤ 114) }
-    ensures { result ≡ k_max t_curr }
-{
-    let high = 2 * t_curr + 4;
-    if high > 228 { 228 } else { high }
-}
-
 // The entry of the largest correlation above 0.0 among all but the first and the last four.
 fn whole_entry(r_12p8: &[f32]) -> usize
-    requires { 8 ≤ length r_12p8.now }
-    ensures { result ≡ whole_entry r_12p8.now }
+    requires { 9 ≤ length r_12p8.now }
+    ensures entry { result ≡ whole_entry r_12p8.now }
+    ensures range { (4 ≤ result) × (result + 4 < length r_12p8.now) }
 {
     let mut max_correlation_val = 0.0;
     let mut entry = 4;
-    for n in 0..r_12p8.len() - 8 {
-        if r_12p8[n + 4] > max_correlation_val {
-            max_correlation_val = r_12p8[n + 4];
+    for (n, &value) in r_12p8[4..r_12p8.len() - 4].iter().enumerate() {
+        if value > max_correlation_val {
+            max_correlation_val = value;
             entry = n + 4;
         }
     }
@@ -50,8 +34,8 @@ fn whole_entry(r_12p8: &[f32]) -> usize
 }
 
 // The correlations interpolated at d quarters past an entry.
-fn interpolate(r_12p8: &[f32], entry: usize, d: i32, interpolation: &[f32]) -> f32
-    requires { (4 ≤ entry) × (entry + 4 < length r_12p8.now) × (entry ≤ 404) × (mag d ≤ 3) × (length interpolation.now ≡ 31) }
+fn interpolate(r_12p8: &[f32], entry: usize, d: i32, interpolation: &[f32; 31]) -> f32
+    requires { (4 ≤ entry) × (entry + 4 < length r_12p8.now) × (entry ≤ 404) × (mag d ≤ 3) }
     ensures { result ≡ interpolated r_12p8.now entry d interpolation.now 9 }
 {
     let mut interpolated = 0.0;
@@ -81,9 +65,10 @@ fn is_looked_at(pitch_int: usize, d: i32) -> bool
 }
 
 // The fraction at which the interpolated correlation is largest and above 0.0, and else 0.
-fn fraction(r_12p8: &[f32], entry: usize, pitch_int: usize, interpolation: &[f32]) -> i32
-    requires { (4 ≤ entry) × (entry + 4 < length r_12p8.now) × (entry ≤ 404) × (length interpolation.now ≡ 31) }
-    ensures { result ≡ fraction_of r_12p8.now entry pitch_int interpolation.now }
+fn fraction(r_12p8: &[f32], entry: usize, pitch_int: usize, interpolation: &[f32; 31]) -> i32
+    requires { (4 ≤ entry) × (entry + 4 < length r_12p8.now) × (entry ≤ 404) }
+    ensures fraction { result ≡ fraction_of r_12p8.now entry pitch_int interpolation.now }
+    ensures range { mag result ≤ 3 }
 {
     let mut pitch_fr = 0i32;
     let mut interp_d_max = 0.0;
@@ -124,8 +109,8 @@ fn carried(pitch_int: usize, pitch_fr: i32) -> LagParameter
 }
 
 // The lag among correlations of lags `from`, `from` + 1, ..
-fn lag_among(r_12p8: &[f32], from: usize, interpolation: &[f32]) -> LagParameter
-    requires { (9 ≤ length r_12p8.now) × (from + length r_12p8.now ≤ 233) × (length interpolation.now ≡ 31) }
+fn lag_among(r_12p8: &[f32], from: usize, interpolation: &[f32; 31]) -> LagParameter
+    requires { (9 ≤ length r_12p8.now) × (from + length r_12p8.now ≤ 233) }
     ensures { result ≡ lag_among r_12p8.now from interpolation.now }
 {
     let entry = whole_entry(r_12p8);
@@ -137,18 +122,20 @@ fn lag_among(r_12p8: &[f32], from: usize, interpolation: &[f32]) -> LagParameter
 // The lag at 12.8 kHz near twice the lag at 6.4 kHz. The correlations reach four lags past either
 // end, for the interpolation.
 pub(crate) fn pitch_lag_parameter(
-    x: &[f32; 404],
-    start: usize,
-    len12p8: usize,
+    frame: Delayed<'_>,
     t_curr: usize,
-    interpolation: &[f32],
+    interpolation: &[f32; 31],
 ) -> LagParameter
-    requires { (232 ≤ start) × (start + len12p8 ≤ 404) × (17 ≤ t_curr) × (t_curr ≤ 114) × (length interpolation.now ≡ 31) }
-    ensures { result ≡ lag_parameter x.now start len12p8 t_curr interpolation.now }
+    requires { (17 ≤ t_curr) × (t_curr ≤ 114) }
+    ensures { result ≡ lag_parameter frame.entry.x.now frame.entry.start frame.entry.len12p8 t_curr interpolation.now }
 {
-    let from = k_min(t_curr) - 4;
-    let count = k_max(t_curr) + 4 - from + 1;
+    let Delayed { x, start, len12p8 } = frame;
+    let low = (2 * t_curr - 4).max(32);
+    let high = (2 * t_curr + 4).min(228);
+    let from = low - 4;
+    // room for the longest list of lags: nothing here asks for memory
     let mut r_12p8_buf = [0.0f32; 17];
-    correlate(&x[..], start, len12p8, from, &mut r_12p8_buf[..count]);
-    lag_among(&r_12p8_buf[..count], from, interpolation)
+    let r_12p8 = &mut r_12p8_buf[..high + 4 - from + 1];
+    correlate(x, start, len12p8, from, r_12p8);
+    lag_among(r_12p8, from, interpolation)
 }

@@ -2,13 +2,15 @@
 #![tactic(auto)]
 
 pub mod activation;
+mod delayed;
 mod lag_parameter;
 mod taps;
 
-ghost use Rattle.std.specs.Prelude.{◌≡◌};
-ghost use Rattle.found.specs.Found.{absent, present, is_ten_ms, ready, found_in};
+ghost use Rattle.std.specs.Prelude.{◌≡◌, ◌&&◌, leb};
+ghost use Rattle.found.specs.Found.{absent, present, is_ten_ms, found_in};
 
 use crate::activation::{Activation, Memory, activation_bit};
+use crate::delayed::Delayed;
 use crate::lag_parameter::pitch_lag_parameter;
 use lag::gain::gain_ltpf_on;
 use lag::pitch::{PitchRecord, Present};
@@ -63,30 +65,14 @@ fn present(memory: Memory, index: u32, a: Activation) -> Found
 fn is_ten_ms(n_ms: FrameDuration) -> bool
     ensures { result ≡ is_ten_ms n_ms }
 {
-    match n_ms {
-        FrameDuration::TenMs => true,
-        FrameDuration::SevenPointFiveMs => false,
-    }
+    matches!(n_ms, FrameDuration::TenMs)
 }
 
-// Whether a pitch is present, with a lag of 17 to 114, and the two tables have their lengths.
-#[tactic(auto, unfolding(crate::specs::Found::ready))]
-fn is_ready(d: Detected, correlation: &[f32], signal: &[f32]) -> bool
-    ensures { result ≡ ready d correlation.now signal.now }
+// Whether a pitch is present, with a lag of 17 to 114.
+fn is_ready(d: Detected) -> bool
+    ensures { result ≡ (d.present && leb 17 d.t_curr && leb d.t_curr 114) }
 {
-    if !d.present {
-        return false;
-    }
-    if d.t_curr < 17 {
-        return false;
-    }
-    if d.t_curr > 114 {
-        return false;
-    }
-    if correlation.len() != 31 {
-        return false;
-    }
-    signal.len() == 15
+    d.present && (17..=114).contains(&d.t_curr)
 }
 
 // What is found in a frame: x is its signal at 12.8 kHz, d what the pitch search detected. Where no pitch
@@ -103,24 +89,25 @@ pub fn found_in(
 ) -> Found
     ensures { result ≡ found_in c x.now d memory correlation.now signal.now nbits near_nyquist }
 {
-    if !is_ready(d, correlation, signal) {
+    let Ok(correlation) = <&[f32; 31]>::try_from(correlation) else {
+        return absent(memory);
+    };
+    let Ok(signal) = <&[f32; 15]>::try_from(signal) else {
+        return absent(memory);
+    };
+    if !is_ready(d) {
         return absent(memory);
     }
-    let fs = c.fs;
-    let n_ms = c.n_ms;
+    let Lc3Config { fs, n_ms, .. } = c;
     let l = lengths_of(n_ms);
-    let lag = pitch_lag_parameter(x, l.start, l.len12p8, d.t_curr, correlation);
-    let on = gain_ltpf_on(fs, n_ms, nbits);
-    let a = activation_bit(
+    let frame = Delayed {
         x,
-        l.start,
-        l.len12p8,
-        lag,
-        signal,
-        memory,
-        on,
-        near_nyquist,
-        is_ten_ms(n_ms),
-    );
+        start: l.start,
+        len12p8: l.len12p8,
+    };
+    let lag = pitch_lag_parameter(frame, d.t_curr, correlation);
+    let on = gain_ltpf_on(fs, n_ms, nbits);
+    let ten_ms = is_ten_ms(n_ms);
+    let a = activation_bit(frame, lag, signal, memory, on, near_nyquist, ten_ms);
     present(memory, lag.pitch_index, a)
 }

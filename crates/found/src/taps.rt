@@ -17,7 +17,7 @@ pub(crate) fn strictly_inside(n: i32, half: i32) -> bool
     requires { mag half ≤ 16 }
     ensures { result ≡ inside half n }
 {
-    if -half < n { n < half } else { false }
+    -half < n && n < half
 }
 
 // The entry that lies `by` past `at`, or before it where `by` is negative.

@@ -9,7 +9,7 @@ ghost use Rattle.interleave.specs.Turns.{every_second, lefts, rights, in_turn};
 use floats::{all_in_range, in_range};
 
 // Copies the samples of both ears into two arrays, each from its place on. One pass takes both, which costs no more
-// than to copy each by itself.
+// than to copy each by itself. By index, since it writes two slices at once, each from a place of its own.
 pub fn deinterleave(
     samples: &[f32],
     nf: usize,
@@ -27,7 +27,7 @@ pub fn deinterleave(
     }
 }
 
-// Copies them back.
+// Copies them back: by index too, two slices into one.
 pub fn interleave(
     samples: &mut [f32],
     nf: usize,
@@ -51,10 +51,8 @@ fn every_second_in_range(samples: &[f32], from: usize) -> bool
     ensures { result ≡ all_in_range (every_second (drop from samples.now)) }
 {
     let mut all = true;
-    let mut i = from;
-    while i < samples.len() {
+    for i in (from..samples.len()).step_by(2) {
         all = all & in_range(samples[i]);
-        i = i + 2;
     }
     all
 }

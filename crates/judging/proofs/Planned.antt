@@ -1,5 +1,7 @@
 -- What a plan that judging gave fit marks has: a lag of its rate, rows that were lent, and filters that read inside the history. Where the past is kept
 -- does not matter here.
+use Rattle.lag.specs.declared.gain.Gain.{Gain}
+use Rattle.std.proofs.Common.{Option}
 use Prim.Native.Nat.{ℕ, ◌≤◌}
 use mathlib.Core.Path.{◌≡◌, refl, sym, ap}
 use mathlib.Core.Bool.{Bool, true, false, cond, true≢false}
@@ -8,7 +10,6 @@ use mathlib.Core.List.{List}
 use lib.Ieee.{Float}
 use Rattle.rates.specs.declared.config.Lc3Config.{Lc3Config}
 use Rattle.lag.specs.Sent.{sent_of}
-use Rattle.lag.specs.declared.gain.Gain.{Gain}
 use Rattle.lag.specs.declared.rescale.Lag.{Lag}
 use Rattle.coefficients.specs.Coefficients.{gain_row, filter_of, new_filter}
 use Rattle.coefficients.specs.Required.{Lent}
@@ -28,7 +29,7 @@ use Rattle.judging.proofs.Lags.{lag_for_fits, lag_for_quarter, lag_for_none}
 use Rattle.judging.proofs.Readable.{inside_of_lag, readable, gain_row_lem}
 use Rattle.judging.proofs.Judging.{Passed, lent}
 
-new_inside : (c : Lc3Config) → FromTable c → (active : Bool) (gain : Gain) (lag : Lag) (nums dens : List Float) →
+new_inside : (c : Lc3Config) → FromTable c → (active : Bool) (gain : Option Gain) (lag : Lag) (nums dens : List Float) →
     lag_fits c.fs active lag ≡ true → active ≡ true → Inside (new_filter c.fs.l_den active gain lag nums dens) c.history
 unfolding new_filter filter_of
 new_inside c k true gain lag nums dens h e = inside_of_lag c k _ refl lag refl h

@@ -1,12 +1,12 @@
 -- Filters whose lag is one of their rate read inside the history, and no further back than the rate's reach.
+use Rattle.std.proofs.Common.{None}
 use Prim.Native.Nat.{ℕ, ◌+◌, ◌*◌, ◌≤◌}
 use mathlib.Core.Path.{◌≡◌, refl}
 use mathlib.Core.Bool.{Bool, true, false, cond}
 use native.Mathlib.Omega.{arith}
 use lib.Dec.{ltb}
 use Rattle.rates.specs.declared.config.Lc3Config.{Lc3Config}
-use Rattle.lag.specs.Gain.{gain_of, hundredths}
-use Rattle.lag.specs.declared.gain.Gain.TheVariants.{Off, On}
+use Rattle.lag.specs.Gain.{gain_of, on}
 use Rattle.lag.specs.declared.rescale.Lag.{Lag}
 use Rattle.lag.proofs.Reach.{shortest_lag, longest_lag}
 use Rattle.coefficients.specs.Coefficients.{Filter, gain_row}
@@ -57,7 +57,7 @@ unfolding gain_of
 gain_row_lem i t = go (ltb t (320 + 80 * i)) (ltb t (400 + 80 * i)) (ltb t (480 + 80 * i)) (ltb t (560 + 80 * i))
   where
     go : (a b c d : Bool) →
-        gain_row (cond a (On (hundredths 40) 0) (cond b (On (hundredths 35) 1) (cond c (On (hundredths 30) 2) (cond d (On (hundredths 25) 3) Off)))) ≤ 3
+        gain_row (cond a (on 40 0) (cond b (on 35 1) (cond c (on 30 2) (cond d (on 25 3) None)))) ≤ 3
     go true b c d = omega arith
     go false true c d = omega arith
     go false false true d = omega arith

@@ -1,25 +1,21 @@
 -- The verdict on a frame: the first refusal in the scope's order, or what the frame is to do.
-use Rattle.std.specs.Prelude.{ℕ, ◌+◌, ◌*◌, Bool, true, false, ◌&&◌, List, leb, eqb, Float, length}
+use Rattle.rates.specs.declared.answer.Refusal.{Refusal}
+use Rattle.std.specs.Prelude.{ℕ, ◌+◌, ◌*◌, Bool, true, false, ◌&&◌, List, leb, eqb, Float, length, Option, Some, None, Result, Ok, Err}
 use Rattle.floats.specs.Single.{all_finite, all_in_range}
-use Rattle.rates.specs.declared.answer.Answer.{Answer}
-use Rattle.rates.specs.declared.answer.Answer.TheVariants.{CoefficientCount, CoefficientNotFinite, SampleCount, TooManyBits, IndexTooLarge, SampleOutOfRange}
+use Rattle.rates.specs.declared.answer.Refusal.TheVariants.{CoefficientCount, CoefficientNotFinite, SampleCount, TooManyBits, IndexTooLarge, SampleOutOfRange}
 use Rattle.rates.specs.declared.config.Lc3Config.{Lc3Config}
-use Rattle.rates.specs.declared.config.Configured.{Configured}
 use Rattle.lag.specs.Gain.{gain_of, bits_of}
 use Rattle.lag.specs.declared.rescale.Lag.{Lag}
-use Rattle.lag.specs.declared.rescale.FoundLag.{FoundLag}
 use Rattle.filter.specs.Transition.{transition_of}
 use Rattle.judging.specs.Pitch.{is_active, lag_for}
 use Rattle.control.specs.declared.marks.Marks.{Marks}
 use Rattle.judging.specs.declared.plan.SideInfo.{SideInfo}
 use Rattle.judging.specs.declared.plan.Plan.{Plan}
-use Rattle.judging.specs.declared.plan.Verdict.{Verdict}
-use Rattle.judging.specs.declared.plan.Verdict.TheVariants.{Refused, Accepted}
 
 -- unless a test passes, a refusal
-abbrev pub unless : Bool → Answer → Verdict → Verdict
-unless false answer v = Refused answer
-unless true answer v = v
+abbrev pub unless : {A : Type 0} → Bool → Refusal → Result A Refusal → Result A Refusal
+unless false refusal v = Err refusal
+unless true refusal v = v
 
 -- each slice has four rows; one of numerators has l_num + 1 entries, which is one below l_den, and one of denominators l_den + 1
 abbrev pub set_counts : ℕ → List Float → List Float → Bool
@@ -40,30 +36,30 @@ plan_of m c side lag = record {
 }
 
 -- 7: a present index above 511 has no lag
-abbrev pub lag_judged : Marks → Lc3Config → SideInfo → FoundLag → Verdict
-lag_judged m c side FoundLag.IndexTooLarge = Refused IndexTooLarge
-lag_judged m c side (FoundLag.Lag lag) = Accepted (plan_of m c side lag)
+abbrev pub lag_judged : Marks → Lc3Config → SideInfo → Option Lag → Result Plan Refusal
+lag_judged m c side None = Err IndexTooLarge
+lag_judged m c side (Some lag) = Ok (plan_of m c side lag)
 
 -- 6 and 7, which the side information decides
-unfoldable pub judged_side : Marks → Lc3Config → SideInfo → Verdict
+unfoldable pub judged_side : Marks → Lc3Config → SideInfo → Result Plan Refusal
 judged_side m c side = unless (leb side.nbits 3200) TooManyBits (lag_judged m c side (lag_for c.fs side.pitch))
 
 -- 8, where nothing else refuses the frame
-abbrev pub ranged : Bool → Verdict → Verdict
-ranged inside (Refused answer) = Refused answer
-ranged inside (Accepted plan) = unless inside SampleOutOfRange (Accepted plan)
+abbrev pub ranged : Bool → Result Plan Refusal → Result Plan Refusal
+ranged inside (Err answer) = Err answer
+ranged inside (Ok plan) = unless inside SampleOutOfRange (Ok plan)
 
 -- The verdict on a frame with these samples: 9, which fitness decided; then 3, 4 and 5; then 6 and 7, and last 8. `full` tests the
 -- number of samples.
-abbrev pub judged_frame : Marks → List Float → List Float → SideInfo → (Lc3Config → Bool) → List Float → Configured → Verdict
-judged_frame m numerators denominators side full samples (Configured.Refused answer) = Refused answer
-judged_frame m numerators denominators side full samples (Configured.Config c) =
+abbrev pub judged_frame : Marks → List Float → List Float → SideInfo → (Lc3Config → Bool) → List Float → Result Lc3Config Refusal → Result Plan Refusal
+judged_frame m numerators denominators side full samples (Err answer) = Err answer
+judged_frame m numerators denominators side full samples (Ok c) =
     unless (set_counts c.fs.l_den numerators denominators) CoefficientCount
     (unless (set_finite numerators denominators) CoefficientNotFinite
     (unless (full c) SampleCount
     (ranged (all_in_range samples) (judged_side m c side))))
 
 -- the verdict on a frame of one decoder: the samples are to be as many as the configuration's frame
-unfoldable pub judged : Marks → Configured → List Float → List Float → SideInfo → List Float → Verdict
+unfoldable pub judged : Marks → Result Lc3Config Refusal → List Float → List Float → SideInfo → List Float → Result Plan Refusal
 judged m fitted numerators denominators side samples =
     judged_frame m numerators denominators side (λ c. eqb (length samples) c.nf) samples fitted

@@ -1,7 +1,7 @@
 -- How many products with a coefficient a frame takes, by its plan.
-use Rattle.std.specs.Prelude.{ℕ, ◌%◌, List, [], ◌∷◌, map}
+use Rattle.rates.specs.declared.answer.Refusal.{Refusal}
+use Rattle.std.specs.Prelude.{ℕ, ◌%◌, List, [], ◌∷◌, map, Result, Ok, Err}
 use Rattle.rates.specs.declared.config.Lc3Config.{Lc3Config}
-use Rattle.rates.specs.declared.config.Configured.{Configured}
 use Rattle.filter.specs.declared.transition.Transition.{Transition}
 use Rattle.filter.specs.declared.transition.Transition.TheVariants.{Inactive, Activated, Deactivated, ActiveNoPitchChange, ActivePitchChanged}
 use Rattle.filter.specs.Counted.{evaluations_of, products_of}
@@ -19,6 +19,6 @@ plan_products plan =
 abbrev pub products_in : Lc3Config → Transition → ℕ
 products_in c t = products_of c.fs.l_den (evaluations_of t c.nf c.fs.fade)
 
-abbrev pub five_products : Configured → List ℕ
-five_products (Configured.Refused answer) = []
-five_products (Configured.Config c) = map (products_in c) (Inactive ∷ Activated ∷ Deactivated ∷ ActiveNoPitchChange ∷ ActivePitchChanged ∷ [])
+abbrev pub five_products : Result Lc3Config Refusal → List ℕ
+five_products (Err answer) = []
+five_products (Ok c) = map (products_in c) (Inactive ∷ Activated ∷ Deactivated ∷ ActiveNoPitchChange ∷ ActivePitchChanged ∷ [])

@@ -1,72 +1,48 @@
 // The verdict on a frame: the refusals in their order, each reading no more than it needs.
-ghost use Rattle.std.specs.Prelude.{◌≡◌};
-ghost use Rattle.rates.specs.declared.config.Configured.TheVariants.{Config};
+ghost use Rattle.std.specs.Prelude.{◌≡◌, Ok};
 ghost use Rattle.judging.specs.Judge.{judged};
 ghost use Rattle.judging.specs.Lent.{lent_of};
 
 use crate::lent::{set_counts, set_finite};
-use crate::plan::{SideInfo, Verdict, judge_side};
+use crate::plan::{Plan, SideInfo, judge_side};
+use coefficients::CoefficientSet;
 use control::marks::Marks;
 use floats::all_in_range;
-use rates::answer::Answer;
+use rates::answer::{Answer, Refusal};
 use rates::config::Lc3Config;
 
-// What is lent with a frame: fine, or refused.
-#[derive(Clone, Copy)]
-pub enum Lent {
-    Fine,
-    Refused(Answer),
-}
-
 // Looks at the set and at how many samples there are: 3, 4 and 5. `due` is how many there are to be.
-pub fn judge_lent(
-    l_den: usize,
-    numerators: &[f32],
-    denominators: &[f32],
-    count: usize,
-    due: usize,
-) -> Lent
-    ensures { result ≡ lent_of l_den numerators.now denominators.now count due }
+#[tactic(auto, unfolding(crate::specs::Lent::lent_of))]
+pub fn judge_lent(l_den: usize, set: CoefficientSet, count: usize, due: usize) -> Answer
+    ensures { result ≡ lent_of l_den set.entry.numerators.now set.entry.denominators.now count due }
 {
-    if !set_counts(l_den, numerators, denominators) {
-        return Lent::Refused(Answer::CoefficientCount);
+    if !set_counts(l_den, set) {
+        return Err(Refusal::CoefficientCount);
     }
-    if !set_finite(numerators, denominators) {
-        return Lent::Refused(Answer::CoefficientNotFinite);
+    if !set_finite(set) {
+        return Err(Refusal::CoefficientNotFinite);
     }
     if count != due {
-        return Lent::Refused(Answer::SampleCount);
+        return Err(Refusal::SampleCount);
     }
-    Lent::Fine
+    Ok(())
 }
 
 // The verdict on a frame given to fit marks.
+#[tactic(auto, unfolding(crate::specs::Judge::judged, crate::specs::Lent::lent_of))]
 pub fn judge(
     marks: Marks,
     config: Lc3Config,
-    numerators: &[f32],
-    denominators: &[f32],
+    set: CoefficientSet,
     side: SideInfo,
     samples: &[f32],
-) -> Verdict
-    ensures { result ≡ judged marks (Config config) numerators.now denominators.now side samples.now }
+) -> Result<Plan, Refusal>
+    ensures { result ≡ judged marks (Ok config) set.entry.numerators.now set.entry.denominators.now side samples.now }
 {
-    let l_den = config.fs.l_den;
-    if let Lent::Refused(answer) = judge_lent(
-        l_den,
-        numerators,
-        denominators,
-        samples.len(),
-        config.nf,
-    ) {
-        return Verdict::Refused(answer);
-    }
-    let plan = match judge_side(marks, config, side) {
-        Verdict::Accepted(plan) => plan,
-        Verdict::Refused(answer) => return Verdict::Refused(answer),
-    };
+    judge_lent(config.fs.l_den, set, samples.len(), config.nf)?;
+    let plan = judge_side(marks, config, side)?;
     if !all_in_range(samples) {
-        return Verdict::Refused(Answer::SampleOutOfRange);
+        return Err(Refusal::SampleOutOfRange);
     }
-    Verdict::Accepted(plan)
+    Ok(plan)
 }

@@ -7,8 +7,8 @@ use control::marks::Marks;
 use filter::transition::{Transition, transition_of};
 use lag::gain::{Gain, compute_gains_params};
 use lag::pitch::PitchRecord;
-use lag::rescale::{FoundLag, Lag};
-use rates::answer::Answer;
+use lag::rescale::Lag;
+use rates::answer::Refusal;
 use rates::config::Lc3Config;
 
 // What a frame brings beside its samples and its set: the pitch record, and the frame's bits.
@@ -24,47 +24,32 @@ pub struct Plan {
     pub config: Lc3Config,
     pub active: bool,
     pub lag: Lag,
-    pub gain: Gain,
+    pub gain: Option<Gain>,
     pub transition: Transition,
-}
-
-#[derive(Clone, Copy)]
-pub enum Verdict {
-    Refused(Answer),
-    Accepted(Plan),
 }
 
 // The plan of a frame with this lag.
 fn plan_of(marks: Marks, config: Lc3Config, side: SideInfo, lag: Lag) -> Plan
     ensures { result ≡ plan_of marks config side lag }
 {
-    let pitch = side.pitch;
-    let fs = config.fs;
-    let n_ms = config.n_ms;
-    let lag_prev = marks.lag;
-    let active = is_active(pitch);
-    let gain = compute_gains_params(fs, n_ms, side.nbits);
-    let transition = transition_of(marks.ltpf_active_prev, active, lag_prev, lag);
+    let active = is_active(side.pitch);
     Plan {
         config,
         active,
         lag,
-        gain,
-        transition,
+        gain: compute_gains_params(config.fs, config.n_ms, side.nbits),
+        transition: transition_of(marks.ltpf_active_prev, active, marks.lag, lag),
     }
 }
 
 // The verdict as far as the side information decides it: it needs neither set nor samples.
-pub fn judge_side(marks: Marks, config: Lc3Config, side: SideInfo) -> Verdict
+#[tactic(auto, unfolding(crate::specs::Judge::judged_side))]
+pub fn judge_side(marks: Marks, config: Lc3Config, side: SideInfo) -> Result<Plan, Refusal>
     ensures { result ≡ judged_side marks config side }
 {
     if side.nbits > 3200 {
-        return Verdict::Refused(Answer::TooManyBits);
+        return Err(Refusal::TooManyBits);
     }
-    let fs = config.fs;
-    let pitch = side.pitch;
-    let FoundLag::Lag(lag) = lag_for(fs, pitch) else {
-        return Verdict::Refused(Answer::IndexTooLarge);
-    };
-    Verdict::Accepted(plan_of(marks, config, side, lag))
+    let lag = lag_for(config.fs, side.pitch).ok_or(Refusal::IndexTooLarge)?;
+    Ok(plan_of(marks, config, side, lag))
 }

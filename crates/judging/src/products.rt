@@ -6,7 +6,8 @@ ghost use Rattle.judging.specs.Products.{small, plan_products};
 use crate::plan::Plan;
 use filter::transition::Transition;
 
-// A number of a configuration, in few bits, so that no product can wrap. No number of the table has more.
+// A number of a configuration, in few bits, so that no product can wrap. No number of the table has more, so a conversion
+// that can fail would have a failure that no call meets.
 fn small(n: usize) -> u32
     ensures { (result ≡ small n) × (result < 4096) }
 {

@@ -1,4 +1,6 @@
 -- What follows from the definitions of the gain.
+use Rattle.lag.specs.declared.gain.Gain.{Gain}
+use Rattle.std.proofs.Common.{Option, Some, None}
 use Prim.Native.Nat.{ℕ, ◌+◌, ◌*◌, ◌≤◌}
 use mathlib.Core.Path.{◌≡◌, refl}
 use mathlib.Core.Bool.{Bool, true, false, cond}
@@ -6,9 +8,7 @@ use native.Mathlib.Omega.{arith}
 use borrow.Author.Tests.{lt-ltb, ltb-true}
 use lib.Dec.{ltb}
 use Rattle.rates.specs.declared.duration.FrameDuration.TheVariants.{SevenPointFiveMs}
-use Rattle.lag.specs.Gain.{bits_of, gain_of, may_activate, hundredths}
-use Rattle.lag.specs.declared.gain.Gain.{Gain}
-use Rattle.lag.specs.declared.gain.Gain.TheVariants.{Off, On}
+use Rattle.lag.specs.Gain.{bits_of, gain_of, may_activate, on}
 
 -- At 7.5 ms three times the scaled bits are at most 1 away from 4·nbits: they are nbits·10/7.5 to the nearest whole number, with no tie.
 pub bits_nearest : (n : ℕ) → (3 * bits_of SevenPointFiveMs n ≤ 4 * n + 1) × (4 * n ≤ 3 * bits_of SevenPointFiveMs n + 1)
@@ -16,14 +16,14 @@ unfolding bits_of
 bits_nearest n = omega arith
 
 -- 48000 Hz, 7.5 ms: 659 bits still have row 3, and 660 switch the gain off
-pub last_bits : (gain_of 4 (bits_of SevenPointFiveMs 659) ≡ On (hundredths 25) 3) × (gain_of 4 (bits_of SevenPointFiveMs 660) ≡ Off)
+pub last_bits : (gain_of 4 (bits_of SevenPointFiveMs 659) ≡ on 25 3) × (gain_of 4 (bits_of SevenPointFiveMs 660) ≡ None)
 unfolding bits_of gain_of
 last_bits = (refl, refl)
 
 -- the encoder may activate exactly where the gain is not off
-abbrev is_on : Gain → Bool
-is_on Off = false
-is_on (On g row) = true
+abbrev is_on : Option Gain → Bool
+is_on None = false
+is_on (Some g) = true
 
 pub active_where_on : (i t : ℕ) → may_activate i t ≡ is_on (gain_of i t)
 unfolding gain_of
@@ -31,7 +31,7 @@ active_where_on i t =
     go (ltb t (320 + 80 * i)) (ltb t (400 + 80 * i)) (ltb t (480 + 80 * i)) (ltb t (560 + 80 * i)) refl refl refl refl
   where
     go : (a b c d : Bool) → ltb t (320 + 80 * i) ≡ a → ltb t (400 + 80 * i) ≡ b → ltb t (480 + 80 * i) ≡ c → ltb t (560 + 80 * i) ≡ d →
-        ltb t (560 + 80 * i) ≡ is_on (cond a (On (hundredths 40) 0) (cond b (On (hundredths 35) 1) (cond c (On (hundredths 30) 2) (cond d (On (hundredths 25) 3) Off))))
+        ltb t (560 + 80 * i) ≡ is_on (cond a (on 40 0) (cond b (on 35 1) (cond c (on 30 2) (cond d (on 25 3) None))))
     go true b c d p q r s = lt-ltb t (560 + 80 * i) (omega (arith, ltb-true t (320 + 80 * i) p))
     go false true c d p q r s = lt-ltb t (560 + 80 * i) (omega (arith, ltb-true t (400 + 80 * i) q))
     go false false true d p q r s = lt-ltb t (560 + 80 * i) (omega (arith, ltb-true t (480 + 80 * i) r))

@@ -1,11 +1,11 @@
 -- How far back a filter can read: never outside the used history, for every rate, duration, lag index and tap.
+use Rattle.std.proofs.Common.{Some}
 use Prim.Native.Nat.{ℕ, ◌+◌, ◌/◌, ◌≤◌}
 use mathlib.Core.Path.{◌≡◌}
 use native.Mathlib.Omega.{arith}
 use Rattle.rates.specs.Table.{row_of}
 use Rattle.rates.specs.Configs.{history_of}
 use Rattle.rates.specs.declared.table.Rate.{Rate}
-use Rattle.rates.specs.declared.table.FoundRate.TheVariants.{Row}
 use Rattle.rates.specs.declared.duration.FrameDuration.{FrameDuration}
 use Rattle.rates.specs.declared.duration.FrameDuration.TheVariants.{TenMs, SevenPointFiveMs}
 use Rattle.rates.proofs.Rows.{bound_at}
@@ -16,7 +16,7 @@ use Rattle.lag.proofs.Lags.{quarters_range, rescaled_keeps_order}
 abbrev whole : Rate → ℕ → ℕ
 whole fs q = rescaled fs.r q / 4
 
-module _ (hz : ℕ) (fs : Rate) (known : row_of hz ≡ Row fs) where
+module _ (hz : ℕ) (fs : Rate) (known : row_of hz ≡ Some fs) where
   -- the smallest lag leaves 18 samples between a filter's output and the newest output that it reads
   pub shortest_lag : fs.l_den / 2 + 18 ≤ whole fs 128
   unfolding rescaled

@@ -1,4 +1,7 @@
 -- How a lag is rounded to a rate.
+use Rattle.lag.specs.declared.rescale.RoundedLag.{RoundedLag}
+use Rattle.lag.specs.declared.rescale.Lag.{Lag}
+use Rattle.std.proofs.Common.{Option, Some, None}
 use Prim.Native.Nat.{ℕ, zero, suc, ◌+◌, ◌-◌, ◌*◌, ◌/◌, ◌%◌, ◌≤◌}
 use mathlib.Core.Path.{◌≡◌, refl, sym, ap, ◌∙◌}
 use mathlib.Core.Bool.{Bool, true, false, cond}
@@ -11,9 +14,6 @@ use lib.IntN.{ℤ, pos, negsuc, nat_abs, sub_ℕ, ◌-ℤ◌, pos-ne-negsuc}
 use lib.Signed.{◌≤ℤ◌, le_z_yes}
 use Rattle.rates.specs.declared.table.Rate.{Rate}
 use Rattle.lag.specs.Lag.{unscaled_of, rescaled, scaled_to, found_lag, rounding, rounded_to, looked_up_lag}
-use Rattle.lag.specs.declared.index.Unscaled.{Unscaled}
-use Rattle.lag.specs.declared.rescale.FoundLag.{FoundLag}
-use Rattle.lag.specs.declared.rescale.LookedUpLag.{LookedUpLag}
 
 -- a difference by comparing the two
 pub difference : (a b : ℕ) → pos a -ℤ pos b ≡ sub_ℕ a b
@@ -62,16 +62,16 @@ rounding_law r q = rw (rounding_drops r q) (go (ltb 4 rest) refl)
     )
 
 -- The lag of the lookup, without its rounding, is the lag that a decoder keeps.
-abbrev pub lag_alone : LookedUpLag → FoundLag
-lag_alone (LookedUpLag.Lag l) = FoundLag.Lag l.lag
-lag_alone LookedUpLag.IndexTooLarge = FoundLag.IndexTooLarge
+abbrev pub lag_alone : Option RoundedLag → Option Lag
+lag_alone (Some l) = Some l.lag
+lag_alone None = None
 
 pub same_lag_lem : (fs : Rate) (index : ℕ) → lag_alone (looked_up_lag fs index) ≡ found_lag fs index
 same_lag_lem fs index = go (unscaled_of index)
   where
-    go : (u : Unscaled) → lag_alone (rounded_to fs u) ≡ scaled_to fs u
-    go (Unscaled.Quarters q) = refl
-    go Unscaled.IndexTooLarge = refl
+    go : (u : Option ℕ) → lag_alone (rounded_to fs u) ≡ scaled_to fs u
+    go (Some q) = refl
+    go None = refl
 
 -- a product of 5, 32 and 16 bits is far below 2 ^ 64
 pub product_small : (r q : ℕ) → r ≤ 4294967295 → q ≤ 65535 → 5 * r * q ≤ 5 * 4294967295 * 65535

@@ -1,11 +1,12 @@
 -- The rows that docs/SCOPE.md lists, as one table.
+use Rattle.lag.specs.declared.rescale.Lag.{Lag}
+use Rattle.rates.specs.declared.table.Rate.{Rate}
+use Rattle.std.proofs.Common.{Option, Some, None}
 use Prim.Native.Nat.{ℕ}
 use mathlib.Core.Path.{◌≡◌, refl}
 use mathlib.Core.List.{List, [], ◌∷◌, map}
 use Rattle.rates.specs.Table.{row_of, find}
-use Rattle.rates.specs.declared.table.FoundRate.{FoundRate}
 use Rattle.lag.specs.Lag.{quarters, index_of, rescaled, found_lag}
-use Rattle.lag.specs.declared.rescale.FoundLag.{FoundLag}
 
 -- rate, index, whole lag and quarter
 pub lag_rows : List (ℕ × ℕ × ℕ × ℕ)
@@ -20,15 +21,15 @@ pub index_rows : List (ℕ × ℕ × ℕ)
 index_rows = (126, 2, 378) ∷ (127, 0, 380) ∷ []
 
 -- the lag of an index at a rate in Hz; an unknown rate has none
-pub lag_at_lem : FoundRate → ℕ → FoundLag
-lag_at_lem (FoundRate.Row fs) index = found_lag fs index
-lag_at_lem FoundRate.Unknown index = FoundLag.IndexTooLarge
+pub lag_at_lem : Option Rate → ℕ → Option Lag
+lag_at_lem (Some fs) index = found_lag fs index
+lag_at_lem None index = None
 
-pub found : ℕ × ℕ × ℕ × ℕ → FoundLag
+pub found : ℕ × ℕ × ℕ × ℕ → Option Lag
 found row = lag_at_lem (row_of row.0) row.1
 
-pub expected : ℕ × ℕ × ℕ × ℕ → FoundLag
-expected row = FoundLag.Lag (record { whole = row.2; quarter = row.3 })
+pub expected : ℕ × ℕ × ℕ × ℕ → Option Lag
+expected row = Some (record { whole = row.2; quarter = row.3 })
 
 pub stars : (map found lag_rows ≡ map expected lag_rows)
     × (map (λ row. index_of row.0 row.1) index_rows ≡ map (λ row. row.2) index_rows)

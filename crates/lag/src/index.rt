@@ -2,30 +2,26 @@
 ghost use Rattle.std.specs.Prelude.{◌≡◌};
 ghost use Rattle.lag.specs.Lag.{unscaled_of, index_of};
 
-#[derive(Clone, Copy)]
-pub enum Unscaled {
-    Quarters(u16),
-    IndexTooLarge,
-}
-
 // The lag of an index, in quarters of a sample at 12.8 kHz. An index above 511 has none.
-pub fn unscaled_lag(pitch_index: u32) -> Unscaled
+#[tactic(auto, unfolding(crate::specs::Lag::quarters))]
+pub fn unscaled_lag(pitch_index: u32) -> Option<u16>
     ensures { result ≡ unscaled_of pitch_index }
 {
     if pitch_index > 511 {
-        return Unscaled::IndexTooLarge;
+        return None;
     }
     if pitch_index <= 379 {
-        return Unscaled::Quarters((pitch_index + 128) as u16);
+        return Some((pitch_index + 128) as u16);
     }
     if pitch_index <= 439 {
-        return Unscaled::Quarters((2 * pitch_index - 252) as u16);
+        return Some((2 * pitch_index - 252) as u16);
     }
-    Unscaled::Quarters((4 * pitch_index - 1132) as u16)
+    Some((4 * pitch_index - 1132) as u16)
 }
 
 // The index of a lag at 12.8 kHz: its whole part, and its quarters once a negative fraction has
 // been carried. Lags start at 32; below that the answer stays at 0.
+#[tactic(auto, unfolding(crate::specs::Lag::index_of))]
 pub fn lag_index(pitch_int: u16, pitch_fr: u8) -> u32
     ensures { result ≡ index_of pitch_int pitch_fr }
 {

@@ -14,19 +14,13 @@ pub enum PitchRecord {
     Present(Present),
 }
 
-// What of a record is sent: whatever receives or stores a record goes by this alone.
-#[derive(Clone, Copy)]
-pub enum Sent {
-    Absent,
-    Present(Present),
-}
-
-// What of a record is sent: nothing of an absent one, index and active mark of a present one.
-pub fn sent_of(pitch: PitchRecord) -> Sent
+// What of a record is sent: nothing of an absent one, index and active mark of a present one. Whatever receives or stores a
+// record goes by this alone.
+pub fn sent_of(pitch: PitchRecord) -> Option<Present>
     ensures { result ≡ sent_of pitch }
 {
     match pitch {
-        PitchRecord::Absent => Sent::Absent,
-        PitchRecord::Present(present) => Sent::Present(present),
+        PitchRecord::Absent => None,
+        PitchRecord::Present(present) => Some(present),
     }
 }

@@ -2,19 +2,13 @@
 ghost use Rattle.std.specs.Prelude.{◌≡◌, ◌+◌, ◌*◌, ◌%◌};
 ghost use Rattle.lag.specs.Lag.{lag_of, found_lag, rounding, looked_up_lag};
 
-use crate::index::{Unscaled, unscaled_lag};
+use crate::index::unscaled_lag;
 use rates::table::Rate;
 
-#[derive(Clone, Copy)]
+#[derive(Clone, Copy, PartialEq, Eq)]
 pub struct Lag {
     pub whole: usize,
     pub quarter: usize,
-}
-
-#[derive(Clone, Copy)]
-pub enum FoundLag {
-    Lag(Lag),
-    IndexTooLarge,
 }
 
 // A lag, and by how many eighths of a quarter rounding made it longer; below 0, shorter.
@@ -22,12 +16,6 @@ pub enum FoundLag {
 pub struct RoundedLag {
     pub lag: Lag,
     pub rounding: i32,
-}
-
-#[derive(Clone, Copy)]
-pub enum LookedUpLag {
-    Lag(RoundedLag),
-    IndexTooLarge,
 }
 
 // A lag of so many quarters at 12.8 kHz, at r times 8000 Hz. Halves are rounded upward.
@@ -42,13 +30,11 @@ pub fn rescale(r: u32, quarters: u16) -> Lag
 }
 
 // The lag of an index at a rate, as a decoder keeps it.
-pub fn compute_filter_parameters(fs: Rate, pitch_index: u32) -> FoundLag
+pub fn compute_filter_parameters(fs: Rate, pitch_index: u32) -> Option<Lag>
     ensures { result ≡ found_lag fs pitch_index }
 {
-    let Unscaled::Quarters(quarters) = unscaled_lag(pitch_index) else {
-        return FoundLag::IndexTooLarge;
-    };
-    FoundLag::Lag(rescale(fs.r, quarters))
+    let quarters = unscaled_lag(pitch_index)?;
+    Some(rescale(fs.r, quarters))
 }
 
 // What the shift of `rescale` drops of 5·R·q + 4.
@@ -66,13 +52,11 @@ fn rounding(r: u32, quarters: u16) -> i32
 }
 
 // The lag lookup: the lag of an index at a rate, and how it was rounded.
-pub fn look_up_lag(fs: Rate, pitch_index: u32) -> LookedUpLag
+pub fn look_up_lag(fs: Rate, pitch_index: u32) -> Option<RoundedLag>
     ensures { result ≡ looked_up_lag fs pitch_index }
 {
-    let Unscaled::Quarters(quarters) = unscaled_lag(pitch_index) else {
-        return LookedUpLag::IndexTooLarge;
-    };
-    LookedUpLag::Lag(RoundedLag {
+    let quarters = unscaled_lag(pitch_index)?;
+    Some(RoundedLag {
         lag: rescale(fs.r, quarters),
         rounding: rounding(fs.r, quarters),
     })

@@ -1,6 +1,5 @@
--- Each of the eight sums is a sum by itself, its samples lie inside, and its steps may be taken in pairs.
+-- Each of the eight sums is a sum by itself, and its steps may be taken in pairs.
 pub mod EachLane
-pub mod EightInside
 pub mod Times
 pub mod ThreeSums
 pub mod InPairs

@@ -11,18 +11,22 @@ all v = record { s0 = v; s1 = v; s2 = v; s3 = v; s4 = v; s5 = v; s6 = v; s7 = v 
 unfoldable pub listed : Lanes → List Float
 listed s = s.s0 ∷ s.s1 ∷ s.s2 ∷ s.s3 ∷ s.s4 ∷ s.s5 ∷ s.s6 ∷ s.s7 ∷ []
 
--- c times the samples from i on, added
-abbrev pub plus : Lanes → Float → List Float → ℕ → Lanes
-plus s c x i = record {
-  s0 = s.s0 ⊕ c ⊗ at x i;
-  s1 = s.s1 ⊕ c ⊗ at x (i + 1);
-  s2 = s.s2 ⊕ c ⊗ at x (i + 2);
-  s3 = s.s3 ⊕ c ⊗ at x (i + 3);
-  s4 = s.s4 ⊕ c ⊗ at x (i + 4);
-  s5 = s.s5 ⊕ c ⊗ at x (i + 5);
-  s6 = s.s6 ⊕ c ⊗ at x (i + 6);
-  s7 = s.s7 ⊕ c ⊗ at x (i + 7);
+-- c times the samples from i on, by an operation of the sum and the product
+abbrev pub combined : (Float → Float → Float) → Lanes → Float → List Float → ℕ → Lanes
+combined of s c x i = record {
+  s0 = of s.s0 (c ⊗ at x i);
+  s1 = of s.s1 (c ⊗ at x (i + 1));
+  s2 = of s.s2 (c ⊗ at x (i + 2));
+  s3 = of s.s3 (c ⊗ at x (i + 3));
+  s4 = of s.s4 (c ⊗ at x (i + 4));
+  s5 = of s.s5 (c ⊗ at x (i + 5));
+  s6 = of s.s6 (c ⊗ at x (i + 6));
+  s7 = of s.s7 (c ⊗ at x (i + 7));
 }
+
+-- added
+abbrev pub plus : Lanes → Float → List Float → ℕ → Lanes
+plus s c x i = combined ◌⊕◌ s c x i
 
 -- where x holds all eight samples
 unfoldable pub row_added : Lanes → Float → List Float → ℕ → Lanes
@@ -30,16 +34,7 @@ row_added s c x i = cond (leb (i + 8) (length x)) (plus s c x i) s
 
 -- and subtracted
 abbrev pub minus : Lanes → Float → List Float → ℕ → Lanes
-minus s c x i = record {
-  s0 = s.s0 ⊖ c ⊗ at x i;
-  s1 = s.s1 ⊖ c ⊗ at x (i + 1);
-  s2 = s.s2 ⊖ c ⊗ at x (i + 2);
-  s3 = s.s3 ⊖ c ⊗ at x (i + 3);
-  s4 = s.s4 ⊖ c ⊗ at x (i + 4);
-  s5 = s.s5 ⊖ c ⊗ at x (i + 5);
-  s6 = s.s6 ⊖ c ⊗ at x (i + 6);
-  s7 = s.s7 ⊖ c ⊗ at x (i + 7);
-}
+minus s c x i = combined ◌⊖◌ s c x i
 
 -- a step for each of the first n numbers: the sums so far, the number, the step's place
 unfoldable pub steps : (Lanes → ℕ → Lanes) → Lanes → ℕ → Lanes
@@ -50,13 +45,17 @@ steps step s (suc n) = step (steps step s n) n
 abbrev pub fir_inside : List Float → List Float → ℕ → Bool
 fir_inside c x i = leb (i + 8) (length x) && leb (length c) (i + 1)
 
-unfoldable pub fir_added : Lanes → List Float → List Float → ℕ → Lanes
+-- c times the samples from i backwards, by an operation; where they are all there
+unfoldable pub fir : (Float → Float → Float) → Lanes → List Float → List Float → ℕ → Lanes
 unfolding steps
-fir_added s c x i = cond (fir_inside c x i) (steps (λ t k. plus t (at c k) x (i - k)) s (length c)) s
+fir of s c x i = cond (fir_inside c x i) (steps (λ t k. combined of t (at c k) x (i - k)) s (length c)) s
 
-unfoldable pub fir_taken : Lanes → List Float → List Float → ℕ → Lanes
-unfolding steps
-fir_taken s c x i = cond (fir_inside c x i) (steps (λ t k. minus t (at c k) x (i - k)) s (length c)) s
+-- added, and subtracted
+abbrev pub fir_added : Lanes → List Float → List Float → ℕ → Lanes
+fir_added s c x i = fir ◌⊕◌ s c x i
+
+abbrev pub fir_taken : Lanes → List Float → List Float → ℕ → Lanes
+fir_taken s c x i = fir ◌⊖◌ s c x i
 
 -- x holds all samples that eight sums of the length of a read from i on
 abbrev pub holds : List Float → List Float → ℕ → Bool
@@ -103,11 +102,14 @@ lane l5 s = s.s5
 lane l6 s = s.s6
 lane l7 s = s.s7
 
--- a sum that adds the first n terms to its start, and one that subtracts them
-unfoldable pub added : (ℕ → Float) → Float → ℕ → Float
-added term start zero = start
-added term start (suc n) = added term start n ⊕ term n
+-- the first n terms joined to a start, by an operation
+unfoldable pub joined : (Float → Float → Float) → (ℕ → Float) → Float → ℕ → Float
+joined of term start zero = start
+joined of term start (suc n) = of (joined of term start n) (term n)
 
-unfoldable pub taken : (ℕ → Float) → Float → ℕ → Float
-taken term start zero = start
-taken term start (suc n) = taken term start n ⊖ term n
+-- a sum that adds them to its start, and one that subtracts them
+abbrev pub added : (ℕ → Float) → Float → ℕ → Float
+added term start n = joined ◌⊕◌ term start n
+
+abbrev pub taken : (ℕ → Float) → Float → ℕ → Float
+taken term start n = joined ◌⊖◌ term start n

@@ -2,9 +2,12 @@
 // itself; side by side, they become vector code.
 #![tactic(auto)]
 
-ghost use Rattle.std.specs.Prelude.{◌≡◌, ◌+◌, ◌≤◌, length};
-ghost use Rattle.slices.specs.Slices.{stored, placed};
-ghost use Rattle.lanes.specs.Lanes.{all, listed, plus, minus, row_added, fir_inside, fir_added, fir_taken, holds, Summed, three_correlated};
+ghost use Rattle.std.specs.Prelude.{◌≡◌, ◌+◌, ◌≤◌, Float, length};
+ghost use Rattle.floats.specs.Single.{◌⊕◌, ◌⊖◌};
+ghost use Rattle.slices.specs.Slices.{placed};
+ghost use Rattle.lanes.specs.Lanes.{all, listed, combined, plus, row_added, fir_inside, fir, holds, Summed, three_correlated};
+
+use slices::{fits, put};
 
 #[derive(Clone, Copy)]
 pub struct Lanes {
@@ -34,19 +37,12 @@ pub fn starting_at(v: f32) -> Lanes
     }
 }
 
-// Writes eight sums that fit.
-fn write(into: &mut [f32], at: usize, s: Lanes)
-    requires { at + 8 ≤ length into.old }
-    ensures { into.new ≡ stored into.old at (listed s) }
+// The eight in a row.
+#[tactic(auto, unfolding(crate::specs::Lanes::listed))]
+fn listed(s: Lanes) -> [f32; 8]
+    ensures { result ≡ listed s }
 {
-    into[at] = s.s0;
-    into[at + 1] = s.s1;
-    into[at + 2] = s.s2;
-    into[at + 3] = s.s3;
-    into[at + 4] = s.s4;
-    into[at + 5] = s.s5;
-    into[at + 6] = s.s6;
-    into[at + 7] = s.s7;
+    [s.s0, s.s1, s.s2, s.s3, s.s4, s.s5, s.s6, s.s7]
 }
 
 // Writes eight sums into a slice, from `at` on. Where they do not fit, nothing is written. All were read
@@ -54,60 +50,66 @@ fn write(into: &mut [f32], at: usize, s: Lanes)
 pub fn store(into: &mut [f32], at: usize, s: Lanes)
     ensures { into.new ≡ placed into.old at (listed s) }
 {
-    if into.len() < 8 {
-        return;
-    }
-    if at > into.len() - 8 {
-        return;
-    }
-    write(into, at, s);
+    put(into, at, &listed(s));
 }
 
-// Each sum with c times its sample added; the first sum's sample is the one at i.
-fn add_scaled(s: Lanes, c: f32, x: &[f32], i: usize) -> Lanes
+// What a sum does with a product.
+pub trait Sense {
+    ghost of: { Float → Float → Float };
+
+    fn apply(sum: f32, product: f32) -> f32
+        ensures { result ≡ of sum product };
+}
+
+// It adds it.
+pub struct Added;
+
+impl Sense for Added {
+    ghost of = { ◌⊕◌ };
+
+    fn apply(sum: f32, product: f32) -> f32 {
+        sum + product
+    }
+}
+
+// It subtracts it.
+pub struct Taken;
+
+impl Sense for Taken {
+    ghost of = { ◌⊖◌ };
+
+    fn apply(sum: f32, product: f32) -> f32 {
+        sum - product
+    }
+}
+
+// Each sum with c times its sample added or subtracted; the first sum's sample is the one at i.
+fn scaled<S: Sense>(s: Lanes, c: f32, x: &[f32], i: usize) -> Lanes
     requires { i + 8 ≤ length x.now }
-    ensures { result ≡ plus s c x.now i }
+    ensures { result ≡ combined S.of s c x.now i }
 {
     Lanes {
-        s0: s.s0 + c * x[i],
-        s1: s.s1 + c * x[i + 1],
-        s2: s.s2 + c * x[i + 2],
-        s3: s.s3 + c * x[i + 3],
-        s4: s.s4 + c * x[i + 4],
-        s5: s.s5 + c * x[i + 5],
-        s6: s.s6 + c * x[i + 6],
-        s7: s.s7 + c * x[i + 7],
+        s0: S::apply(s.s0, c * x[i]),
+        s1: S::apply(s.s1, c * x[i + 1]),
+        s2: S::apply(s.s2, c * x[i + 2]),
+        s3: S::apply(s.s3, c * x[i + 3]),
+        s4: S::apply(s.s4, c * x[i + 4]),
+        s5: S::apply(s.s5, c * x[i + 5]),
+        s6: S::apply(s.s6, c * x[i + 6]),
+        s7: S::apply(s.s7, c * x[i + 7]),
     }
 }
 
 // Each sum with c times its sample of a row added. Where x does not hold all eight, the sums are left as
 // they are.
+#[tactic(auto, unfolding(crate::specs::Lanes::row_added))]
 pub fn add_row(s: Lanes, c: f32, x: &[f32], i: usize) -> Lanes
     ensures { result ≡ row_added s c x.now i }
 {
-    if x.len() < 8 {
-        return s;
-    }
-    if i > x.len() - 8 {
-        return s;
-    }
-    add_scaled(s, c, x, i)
-}
-
-// Each sum with c times its sample subtracted.
-fn sub_scaled(s: Lanes, c: f32, x: &[f32], i: usize) -> Lanes
-    requires { i + 8 ≤ length x.now }
-    ensures { result ≡ minus s c x.now i }
-{
-    Lanes {
-        s0: s.s0 - c * x[i],
-        s1: s.s1 - c * x[i + 1],
-        s2: s.s2 - c * x[i + 2],
-        s3: s.s3 - c * x[i + 3],
-        s4: s.s4 - c * x[i + 4],
-        s5: s.s5 - c * x[i + 5],
-        s6: s.s6 - c * x[i + 6],
-        s7: s.s7 - c * x[i + 7],
+    if fits(x, i, 8) {
+        scaled::<Added>(s, c, x, i)
+    } else {
+        s
     }
 }
 
@@ -115,20 +117,15 @@ fn sub_scaled(s: Lanes, c: f32, x: &[f32], i: usize) -> Lanes
 fn fir_inside(c: &[f32], x: &[f32], i: usize) -> bool
     ensures { result ≡ fir_inside c.now x.now i }
 {
-    if x.len() < 8 {
-        return false;
-    }
-    if i > x.len() - 8 {
-        return false;
-    }
-    c.len() <= i + 1
+    fits(x, i, 8) && c.len() <= i + 1
 }
 
-// Adds c[k]·x[i − k] for rising k, and so for the seven samples after i. Where x does not hold all
-// of them, the sums are left as they are. A turn takes two terms: a loop of one term each is made by
-// the compiler into vectors of terms that are added up one by one, which is slow.
-pub fn add_fir(start: Lanes, c: &[f32], x: &[f32], i: usize) -> Lanes
-    ensures { result ≡ fir_added start c.now x.now i }
+// Adds or subtracts c[k]·x[i − k] for rising k, and so for the seven samples after i. Where x does not
+// hold all of them, the sums are left as they are. A turn takes two terms: a loop of one term each is
+// made by the compiler into vectors of terms that are added up one by one, which is slow. The loop is by
+// index, since x is read backwards while c is read forwards.
+pub fn fir<S: Sense>(start: Lanes, c: &[f32], x: &[f32], i: usize) -> Lanes
+    ensures { result ≡ fir S.of start c.now x.now i }
 {
     if !fir_inside(c, x, i) {
         return start;
@@ -138,34 +135,12 @@ pub fn add_fir(start: Lanes, c: &[f32], x: &[f32], i: usize) -> Lanes
     for j in 0..pairs {
         let k = 2 * j;
         let l = k + 1;
-        let t = add_scaled(s, c[k], x, i - k);
-        s = add_scaled(t, c[l], x, i - l);
+        let t = scaled::<S>(s, c[k], x, i - k);
+        s = scaled::<S>(t, c[l], x, i - l);
     }
     let last = 2 * pairs;
     if last < c.len() {
-        return add_scaled(s, c[last], x, i - last);
-    }
-    s
-}
-
-// Subtracts c[k]·x[i − k] for rising k, in the same way.
-pub fn sub_fir(start: Lanes, c: &[f32], x: &[f32], i: usize) -> Lanes
-    ensures { result ≡ fir_taken start c.now x.now i }
-{
-    if !fir_inside(c, x, i) {
-        return start;
-    }
-    let mut s = start;
-    let pairs = c.len() / 2;
-    for j in 0..pairs {
-        let k = 2 * j;
-        let l = k + 1;
-        let t = sub_scaled(s, c[k], x, i - k);
-        s = sub_scaled(t, c[l], x, i - l);
-    }
-    let last = 2 * pairs;
-    if last < c.len() {
-        return sub_scaled(s, c[last], x, i - last);
+        return scaled::<S>(s, c[last], x, i - last);
     }
     s
 }
@@ -182,16 +157,7 @@ pub struct Three {
 fn holds(a: &[f32], x: &[f32], i: usize) -> bool
     ensures { result ≡ holds a.now x.now i }
 {
-    if x.len() < 8 {
-        return false;
-    }
-    if i > x.len() - 8 {
-        return false;
-    }
-    if a.len() > x.len() - 7 - i {
-        return false;
-    }
-    true
+    fits(x, i, 8) && a.len() <= x.len() - 7 - i
 }
 
 // Adds the products of a[n] to each of the three.
@@ -199,13 +165,10 @@ fn step(s: Three, c: f32, x: &[f32], i: usize, j: usize, k: usize) -> Three
     requires { (i + 8 ≤ length x.now) × (j + 8 ≤ length x.now) × (k + 8 ≤ length x.now) }
     ensures { result ≡ record { first = plus s.first c x.now i; second = plus s.second c x.now j; third = plus s.third c x.now k } }
 {
-    let first = add_scaled(s.first, c, x, i);
-    let second = add_scaled(s.second, c, x, j);
-    let third = add_scaled(s.third, c, x, k);
     Three {
-        first,
-        second,
-        third,
+        first: scaled::<Added>(s.first, c, x, i),
+        second: scaled::<Added>(s.second, c, x, j),
+        third: scaled::<Added>(s.third, c, x, k),
     }
 }
 
@@ -238,6 +201,7 @@ fn three_sums(a: &[f32], x: &[f32], i: usize, j: usize, k: usize) -> Three
 
 // The sums of a[n]·x[i + n] for rising n from 0.0, and so for the seven samples after i; and the
 // same at j and at k. Where x does not hold all samples, all sums are 0.0.
+#[tactic(auto, unfolding(crate::specs::Lanes::three_correlated))]
 pub fn correlate_three(a: &[f32], x: &[f32], i: usize, j: usize, k: usize) -> Three
     ensures { result ≡ three_correlated a.now x.now i j k }
 {
@@ -247,14 +211,9 @@ pub fn correlate_three(a: &[f32], x: &[f32], i: usize, j: usize, k: usize) -> Th
         second: zero,
         third: zero,
     };
-    if !holds(a, x, i) {
-        return zeros;
+    if holds(a, x, i) && holds(a, x, j) && holds(a, x, k) {
+        three_sums(a, x, i, j, k)
+    } else {
+        zeros
     }
-    if !holds(a, x, j) {
-        return zeros;
-    }
-    if !holds(a, x, k) {
-        return zeros;
-    }
-    three_sums(a, x, i, j, k)
 }

@@ -7,23 +7,18 @@ use native.Mathlib.Nat.{zero-add, sub-zero}
 use native.Mathlib.Omega.{arith}
 use borrow.Author.Tests.{lt-ltb, le-ltb}
 use lib.Dec.{eqb}
-use lib.ListN.{length, take, drop}
-use lib.Seq.{take-add}
+use lib.ListN.{length, take, drop, take-append-drop}
 use Rattle.lines.specs.Fields.{byte_at}
 use Rattle.lines.specs.Listings.{Rules}
 use Rattle.lines.specs.Machine.{held_step, held_after, state_step, emitted, state_after, text, full, taken}
+use Rattle.lines.specs.Calls.{after}
 use Rattle.lines.specs.declared.held.Held.{Held}
+use Rattle.lines.specs.declared.machine.Listing.{Listing}
 
 pub held_append : (h : Held) (a b : List ℕ) → held_after h (a ++ b) ≡ held_after (held_after h a) b
 unfolding held_after
 held_append h [] b = refl
 held_append h (x ∷ a) b = held_append (held_step h x) a b
-
--- a machine that was fed the first bytes of an input, and is then fed the next ones
-pub fed_on : {M : Type 0} (after : M → List ℕ → M) → ((m : M) (a b : List ℕ) → after m (a ++ b) ≡ after (after m a) b) →
-    (m₀ m m' : M) (l : List ℕ) (at used : ℕ) (part : List ℕ) → m ≡ after m₀ (take at l) → part ≡ take used (drop at l) → m' ≡ after m part →
-    m' ≡ after m₀ (take (at + used) l)
-fed_on after append m₀ m m' l at used part e p f = f ∙ rw (p, e, take-add at used l) (sym (append m₀ (take at l) (take used (drop at l))))
 
 module _ (L : Rules) where
   pub state_append : (s : L.State) (h : Held) (a b : List ℕ) →
@@ -31,6 +26,20 @@ module _ (L : Rules) where
   unfolding state_after held_after
   state_append s h [] b = refl
   state_append s h (x ∷ a) b = state_append (state_step L s h x) (held_step h x) a b
+
+  -- of a listing, two runs of bytes, one after the other
+  pub after_append : (m : Listing L.State) (a b : List ℕ) → after L m (a ++ b) ≡ after L (after L m a) b
+  after_append m a b = rw (state_append m.known m.held a b, held_append m.held a b)
+
+  -- once it was fed the first bytes of what is left, it comes to the same
+  pub fed_on : (m m' : Listing L.State) (rest : List ℕ) (used : ℕ) → m' ≡ after L m (take used rest) → after L m rest ≡ after L m' (drop used rest)
+  fed_on m m' rest used e = ap (after L m) (sym (take-append-drop used rest)) ∙ rw e (after_append m (take used rest) (drop used rest))
+
+  -- and with nothing left it stays
+  pub fed_all : (m : Listing L.State) (rest : List ℕ) → length rest ≡ 0 → m ≡ after L m rest
+  unfolding state_after held_after
+  fed_all m [] e = refl
+  fed_all m (b ∷ bs) e = absurd (omega arith)
 
   pub text_append : (s : L.State) (h : Held) (a b : List ℕ) →
       text L s h (a ++ b) ≡ text L s h a ++ text L (state_after L s h a) (held_after h a) b

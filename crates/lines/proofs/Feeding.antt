@@ -6,7 +6,7 @@ use mathlib.Core.List.{List, [], ◌∷◌, ◌++◌, append-nil}
 use native.Mathlib.Nat.{zero-add, add-zero, sub-zero}
 use native.Mathlib.Numerals.{add-one}
 use native.Mathlib.Omega.{arith}
-use borrow.Author.Tests.{eqb-true, eq-eqb, ne_eqb}
+use borrow.Author.Tests.{eqb-true}
 use lib.Dec.{eqb}
 use lib.ListN.{length, take, drop, get_or, length-drop, drop_of_length-le}
 use lib.Seq.{take-add, take-suc, drop-cons, drop-drop, get_or-drop}
@@ -117,10 +117,10 @@ module _ (L : Rules) (input out₀ : List ℕ) (s₀ : L.State) (h₀ : Held) wh
 
 -- at the end: nothing is held, or a last line
 module _ (L : Rules) (s : L.State) (h : Held) where
-  pub last_none : h.len ≡ 0 → last_text L s h ≡ L.closing s
+  pub last_none : eqb h.len 0 ≡ true → last_text L s h ≡ L.closing s
   unfolding last_text
-  last_none e = rw (eq-eqb h.len 0 e)
+  last_none e = rw e
 
-  pub last_some : (h.len ≡ 0 → ⊥) → last_text L s h ≡ row_at L s (held_line h) ++ L.closing (state_at L s (held_line h))
+  pub last_some : eqb h.len 0 ≡ false → last_text L s h ≡ row_at L s (held_line h) ++ L.closing (state_at L s (held_line h))
   unfolding last_text
-  last_some n = rw (ne_eqb h.len 0 n)
+  last_some e = rw e

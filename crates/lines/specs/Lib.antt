@@ -2,3 +2,4 @@
 pub mod Fields
 pub mod Listings
 pub mod Machine
+pub mod Calls

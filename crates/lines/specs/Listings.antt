@@ -1,5 +1,5 @@
 -- A listing, defined on the whole input as a list of bytes: a header, a row for each line, and a closing text.
-use Rattle.std.specs.Prelude.{ℕ, ◌+◌, ◌%◌, ◌^◌, ◌≡◌, Bool, cond, List, [], ◌∷◌, ◌++◌, eqb, take}
+use Rattle.std.specs.Prelude.{ℕ, ◌+◌, ◌%◌, ◌^◌, ◌≡◌, Bool, false, cond, List, [], ◌∷◌, ◌++◌, eqb, take}
 
 -- What makes a listing: its header, the state before the first line, and what each line makes of a state:
 -- the state before the next line, and the line's row. From a state that `stops` on no line is listed, and the text that closes
@@ -13,6 +13,27 @@ pub record Rules : Type 1 where
   pub stops : State → Bool
   pub closing : State → List ℕ
   pub space : ℕ
+
+-- what makes a listing that stops nowhere and closes with no text, where `S` is what is known between two lines
+pub record RowRules (S : Type 0) : Type 0 where
+  pub header : List ℕ
+  pub first : S
+  pub moved : S → List ℕ → S
+  pub row : S → List ℕ → List ℕ
+  pub space : ℕ
+
+abbrev pub rules_of : {S : Type 0} → RowRules S → Rules
+rules_of {S} r =
+    record {
+      State = S;
+      header = r.header;
+      first = r.first;
+      moved = r.moved;
+      row = r.row;
+      stops = λ s. false;
+      closing = λ s. [];
+      space = r.space;
+    }
 
 -- a line's first 32 bytes are answered as the line is
 pub record Decided (L : Rules) : Type 0 where

@@ -1,77 +1,58 @@
 // The fields of a line: separated by tabs, each a dash or a number.
-ghost use Rattle.std.specs.Prelude.{◌≡◌};
-ghost use Rattle.lines.specs.Fields.{tab_at, number_of, is_dash, field_of};
+ghost use Rattle.std.specs.Prelude.{◌≡◌, MatchOption, true, false};
+ghost use Rattle.lines.specs.Fields.{tab_at, has_tab, before_tab, after_tab, number_of, is_dash, field_of};
 
+// Said of a text that is not what should stand there.
 #[derive(Clone, Copy)]
-pub enum Number {
-    Value(u32),
-    Malformed,
-}
+pub struct Malformed;
 
-#[derive(Clone, Copy)]
-pub enum Field {
-    Dash,
-    Number(u32),
-    Malformed,
-}
-
-// Where the first tab stands, or the length of a line with none.
+// Where the first tab stands, or the length of a line with none: a number, as docs/PROMISES.md promises.
 pub fn first_tab(line: &[u8]) -> usize
     ensures { result ≡ tab_at line.now }
 {
-    for i in 0..line.len() {
-        if line[i] == b'\t' {
-            return i;
-        }
+    line.iter().position(|&b| b == b'\t').unwrap_or(line.len())
+}
+
+// What stands before the first tab, and what after it.
+pub fn split_at_tab(line: &[u8]) -> Option<(&[u8], &[u8])>
+    ensures { MatchOption result (has_tab line.now ≡ false) (λ p. (has_tab line.now ≡ true) × (p.0.now ≡ before_tab line.now) × (p.1.now ≡ after_tab line.now)) }
+{
+    let tab = first_tab(line);
+    if tab < line.len() {
+        return Some((&line[..tab], &line[tab + 1..]));
     }
-    line.len()
+    None
 }
 
 // A number of at least one digit and at most `most`, and of nine in any case.
-pub fn read_number(s: &[u8], most: usize) -> Number
+pub fn read_number(s: &[u8], most: usize) -> Result<u32, Malformed>
     ensures { result ≡ number_of most s.now }
 {
-    if s.len() == 0 {
-        return Number::Malformed;
-    }
-    if s.len() > most {
-        return Number::Malformed;
-    }
-    if s.len() > 9 {
-        return Number::Malformed;
+    if s.is_empty() || s.len() > most.min(9) {
+        return Err(Malformed);
     }
     let mut value = 0u32;
-    for i in 0..s.len() {
-        let b = s[i];
-        if b < b'0' {
-            return Number::Malformed;
+    for &b in s {
+        if !b.is_ascii_digit() {
+            return Err(Malformed);
         }
-        if b > b'9' {
-            return Number::Malformed;
-        }
-        value = 10 * value + (b - b'0') as u32;
+        value = 10 * value + u32::from(b - b'0');
     }
-    Number::Value(value)
+    Ok(value)
 }
 
 fn is_dash(s: &[u8]) -> bool
     ensures { result ≡ is_dash s.now }
 {
-    if s.len() == 1 {
-        return s[0] == b'-';
-    }
-    false
+    s == b"-".as_slice()
 }
 
 // A dash, or such a number.
-pub fn read_field(s: &[u8], most: usize) -> Field
+pub fn read_field(s: &[u8], most: usize) -> Result<Option<u32>, Malformed>
     ensures { result ≡ field_of most s.now }
 {
     if is_dash(s) {
-        return Field::Dash;
+        return Ok(None);
     }
-    match read_number(s, most) {
-        Number::Value(n) => Field::Number(n),
-        Number::Malformed => Field::Malformed,
-    }
+    Ok(Some(read_number(s, most)?))
 }

@@ -1,9 +1,9 @@
 // The line that is being read. No listing has a well-formed line of more than 31 bytes, so the
 // first 32 say of any line what it is, and no more are held.
-ghost use Rattle.std.specs.Prelude.{◌≡◌, min, drop};
-ghost use Rattle.lines.specs.Machine.{line_taken};
+ghost use Rattle.std.specs.Prelude.{◌≡◌, eqb, min, drop};
+ghost use Rattle.lines.specs.Machine.{held_line, line_taken};
 
-// The bytes that are held, and how many they are.
+// The bytes that are held, and how many they are. An array and a count: nothing here uses a heap.
 #[derive(Clone, Copy)]
 pub struct Held {
     pub bytes: [u8; 32],
@@ -24,15 +24,30 @@ pub fn count(held: Held) -> usize
     if held.len < 32 { held.len } else { 32 }
 }
 
+impl Held {
+    // Whether no byte is held.
+    pub fn is_empty(&self) -> bool
+        ensures { result ≡ eqb self.now.len 0 }
+    {
+        self.len == 0
+    }
+
+    // The bytes that are held.
+    pub fn line(&self) -> &[u8]
+        ensures { result.now ≡ held_line self.now }
+    {
+        &self.bytes[..count(*self)]
+    }
+}
+
 // Takes the bytes from `from` on up to a newline or the input's end, and holds what there is space
-// for.
+// for. It counts the places, since it says at which it stopped.
 pub fn take_line(held: Held, input: &[u8], from: usize) -> Taken
     ensures { result ≡ line_taken held (drop from input.now) from }
 {
     let mut bytes = held.bytes;
     let mut len = held.len;
-    let mut at = from;
-    while at < input.len() {
+    for at in from..input.len() {
         let b = input[at];
         if b == b'\n' {
             return Taken {
@@ -44,10 +59,9 @@ pub fn take_line(held: Held, input: &[u8], from: usize) -> Taken
             bytes[len] = b;
             len += 1;
         }
-        at += 1;
     }
     Taken {
         held: Held { bytes, len },
-        at,
+        at: from.max(input.len()),
     }
 }

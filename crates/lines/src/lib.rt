@@ -1,5 +1,6 @@
-// Tab-separated text that is read: the fields of a line, and the line that is being read.
+// Tab-separated text that is read: the fields of a line, the line that is being read, and a listing of lines in calls.
 #![tactic(auto)]
 
 pub mod field;
 pub mod held;
+pub mod machine;

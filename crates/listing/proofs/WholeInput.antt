@@ -2,11 +2,12 @@
 use Rattle.std.proofs.Common.{◌≡◌, ℕ, ◌<◌, ◌≤◌, List, ◌++◌, length, refl}
 use Rattle.lines.specs.Listings.{Decided}
 use Rattle.lines.specs.Machine.{Call, begun, called_all, whole_text, serving}
+use Rattle.lines.specs.declared.machine.Listing.{Listing}
 use Rattle.lines.proofs.Cuts as cuts
 use Rattle.lines.proofs.WholeInput as whole
 use Rattle.listing.specs.Whole.{header, lag_rules, listing}
 use Rattle.listing.specs.Machine.{first, after, text, taken, last_text}
-use Rattle.listing.specs.declared.machine.Listing.{Listing}
+use Rattle.listing.specs.declared.machine.Known.{Known}
 use Rattle.lag_rows.proofs.LongLines.{first_bytes}
 
 -- a line's first 32 bytes are answered as the line is
@@ -14,14 +15,14 @@ pub decided : Decided lag_rules
 decided = record { moves = λ s line. refl; answers = λ s line. rw (first_bytes line) }
 
 -- two runs of bytes, one after the other
-pub after_append : (m : Listing) (a b : List ℕ) → after m (a ++ b) ≡ after (after m a) b
-after_append m a b = rw (cuts.state_append lag_rules m.known m.held a b, cuts.held_append m.held a b)
+pub after_append : (m : Listing Known) (a b : List ℕ) → after m (a ++ b) ≡ after (after m a) b
+after_append m a b = cuts.after_append lag_rules m a b
 
 pub one_piece : (input : List ℕ) → header ++ text first input ++ last_text (after first input) ≡ listing input
 one_piece input = whole.one_piece lag_rules decided input
 
 -- a call that is offered a byte and has space for a row takes at least one byte
-pub progress : (m : Listing) (offered : List ℕ) (free : ℕ) → 0 < length offered → 106 ≤ free → 0 < taken m offered free
+pub progress : (m : Listing Known) (offered : List ℕ) (free : ℕ) → 0 < length offered → 106 ≤ free → 0 < taken m offered free
 progress m offered free l r = cuts.progress lag_rules m.known m.held offered free l r
 
 -- Calls are fed what is left of the input, each offered any number of its bytes and any buffer. If at least as many of them as the

@@ -1,6 +1,6 @@
 -- The listing, defined on the whole input as a list of bytes.
-use Rattle.std.specs.Prelude.{ℕ, false, List, [], ◌∷◌}
-use Rattle.lines.specs.Listings.{Rules, next_number, listing_of}
+use Rattle.std.specs.Prelude.{ℕ, List, [], ◌∷◌}
+use Rattle.lines.specs.Listings.{Rules, RowRules, rules_of, next_number, listing_of}
 use Rattle.lag_rows.specs.Rows.{answer_to, row_text}
 use Rattle.listing.specs.declared.machine.Known.{Known}
 
@@ -16,20 +16,21 @@ header =
 abbrev pub first_known : Known
 first_known = record { line = 1 }
 
--- Between two lines only the number of the next one is known. Every line is listed, and no text follows the last row. A row has four cells of
--- at most 21 bytes and one, of the rounding, of at most 22.
-abbrev pub lag_rules : Rules
-lag_rules =
+-- Between two lines only the number of the next one is known. A row has four cells of at most 21 bytes and one, of the rounding, of at
+-- most 22.
+abbrev pub lag_rows : RowRules Known
+lag_rows =
     record {
-      State = Known;
       header = header;
       first = first_known;
       moved = λ known line. record { line = next_number known.line };
       row = λ known line. row_text known.line (answer_to line);
-      stops = λ s. false;
-      closing = λ s. [];
       space = 106;
     }
+
+-- every line is listed, and no text follows the last row
+abbrev pub lag_rules : Rules
+lag_rules = rules_of lag_rows
 
 -- the header, and a row for each line
 abbrev pub listing : List ℕ → List ℕ

@@ -1,87 +1,60 @@
-// The listing over standard output: what every program that lists has in common.
+// A listing over standard output: what every program that lists has in common. No contract can say what was
+// written. Each function gives back the listing after it; or nothing, where standard output took no more or the
+// buffer has no space for a row, and why is said.
 #![tactic(auto)]
 
-ghost use Rattle.std.specs.Prelude.{◌≡◌, false};
-ghost use Rattle.listing.specs.Machine.{first, after};
+ghost use Rattle.std.specs.Prelude.{◌≡◌, IfSome};
+ghost use Rattle.lines.specs.Listings.{rules_of};
+ghost use Rattle.lines.specs.Calls.{first, after};
 
-use listing::machine::Listing;
-use outcome::{Outcome, write_out};
-
-// The listing after some input, and whether it stopped before its end: where standard output took
-// no more, or the buffer has no space for a row. Why it stopped is said. No contract can say what
-// was written.
-#[derive(Clone, Copy)]
-pub struct Pumped {
-    pub listing: Listing,
-    pub failed: bool,
-}
+use lines::machine::{Listing, State};
+use outcome::{Outcome, say, write_out};
 
 // A listing with its header written.
-pub fn begin(rt: &HostRuntime, outcome: &mut Outcome) -> Pumped
-    ensures { result.listing ≡ first }
+pub fn begin<S: State>(rt: &HostRuntime, outcome: &mut Outcome) -> Option<Listing<S>>
+    ensures { IfSome result (λ m. m ≡ first (rules_of S.rows)) }
 {
-    let mut text = [0u8; 128];
-    let begun = listing::machine::start(&mut text);
-    let listing = begun.listing;
-    let is_written = write_out(rt, outcome, &text[..35]);
-    Pumped {
-        listing,
-        failed: !is_written,
-    }
-}
-
-// A caller's buffer has no space for a row.
-fn no_space(rt: &HostRuntime, outcome: &mut Outcome) {
-    outcome::say(rt, outcome, b"the listing's buffer has no space for a row");
+    let mut text = [0u8; 256];
+    let begun = Listing::start(&mut text);
+    write_out(rt, outcome, &text[..begun.written]).then_some(begun.listing)
 }
 
 // Feeds a piece of the input to the listing, and writes the rows that it makes by way of out.
-pub fn pump(
+pub fn pump<S: State>(
     rt: &HostRuntime,
     outcome: &mut Outcome,
-    from: Listing,
+    from: Listing<S>,
     input: &[u8],
     out: &mut [u8],
-) -> Pumped
-    ensures { result.failed ≡ false → result.listing ≡ after from input.now }
+) -> Option<Listing<S>>
+    ensures { IfSome result (λ m. m ≡ after (rules_of S.rows) from input.now) }
 {
     let mut listing = from;
-    let mut at = 0;
-    while at < input.len() {
-        let fed = listing.feed(&input[at..], out);
-        let written = fed.written;
-        let next = fed.listing;
-        listing = next;
+    let mut rest = input;
+    while !rest.is_empty() {
+        let fed = listing.feed(rest, out);
         if fed.used == 0 {
-            no_space(rt, outcome);
-            return Pumped {
-                listing,
-                failed: true,
-            };
+            say(rt, outcome, b"the listing's buffer has no space for a row");
+            return None;
         }
-        at += fed.used;
-        if !write_out(rt, outcome, &out[..written]) {
-            return Pumped {
-                listing,
-                failed: true,
-            };
+        if !write_out(rt, outcome, &out[..fed.written]) {
+            return None;
         }
+        listing = fed.listing;
+        rest = &rest[fed.used..];
     }
-    Pumped {
-        listing,
-        failed: false,
-    }
+    Some(listing)
 }
 
 // Writes what is left at the end of the input.
-pub fn end(rt: &HostRuntime, outcome: &mut Outcome, listing: Listing) -> Pumped
-    ensures { result.listing ≡ listing }
+pub fn end<S: State>(
+    rt: &HostRuntime,
+    outcome: &mut Outcome,
+    listing: Listing<S>,
+) -> Option<Listing<S>>
+    ensures { IfSome result (λ m. m ≡ listing) }
 {
-    let mut text = [0u8; 128];
-    let n = listing.finish(&mut text);
-    let is_written = write_out(rt, outcome, &text[..n]);
-    Pumped {
-        listing,
-        failed: !is_written,
-    }
+    let mut text = [0u8; 256];
+    let length = listing.finish(&mut text);
+    write_out(rt, outcome, &text[..length]).then_some(listing)
 }

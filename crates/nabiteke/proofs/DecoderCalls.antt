@@ -1,14 +1,16 @@
 -- What the decoder's functions put together is what the definitions of the calls say.
+use Rattle.rates.proofs.Refusals.{never_done}
+use Rattle.rates.specs.declared.answer.Refusal.{Refusal}
+use Rattle.rates.specs.declared.config.Lc3Config.{Lc3Config}
+use Rattle.std.proofs.Common.{Result, Ok, Err}
 use Prim.Native.Nat.{ℕ}
 use mathlib.Core.Path.{◌≡◌, refl, ap}
 use mathlib.Core.List.{List, []}
 use native.Mathlib.Omega.{arith}
 use borrow.Author.Tests.{ne_eqb}
 use lib.Ieee.{Float}
-use Rattle.rates.specs.Answers.{number_of}
+use Rattle.rates.specs.Answers.{refusal_number, number_of}
 use Rattle.rates.specs.Configs.{config_of}
-use Rattle.rates.specs.declared.config.Configured.{Configured}
-use Rattle.rates.specs.declared.config.Configured.TheVariants.{Config, Refused}
 use Rattle.control.specs.State.{cleared_marks}
 use Rattle.control.specs.Next.{unsettled}
 use Rattle.judging.specs.declared.plan.SideInfo.{SideInfo}
@@ -33,9 +35,9 @@ started_fits : (rate duration : ℕ) → Fits32 (started rate duration).decoder.
 unfolding cleared cleared_marks
 started_fits rate duration = go (config_of rate duration)
   where
-    go : (k : Configured) → Fits32 (started_with rate duration k).decoder.registers
-    go (Config c) = record { block = omega arith; whole = omega arith; quarter = omega arith }
-    go (Refused a) = record { block = omega arith; whole = omega arith; quarter = omega arith }
+    go : (k : Result Lc3Config Refusal) → Fits32 (started_with rate duration k).decoder.registers
+    go (Ok c) = record { block = omega arith; whole = omega arith; quarter = omega arith }
+    go (Err a) = record { block = omega arith; whole = omega arith; quarter = omega arith }
 
 pub start_left : (rate duration : ℕ) (s : Started) → s ≡ started rate duration → (word : ℕ) (ns : List ℕ) → word ≡ number_of s.answer →
     ns ≡ numbers_by narrowed s.decoder.registers →
@@ -49,7 +51,7 @@ module _ (a : DecoderArrays) (st : FramedInPlace) (ks xs ys : List Float) (word 
   pub outcome_left : {samples : List Float} {t : Framed × List Float} → Outcome (read_decoder a) samples t →
       st ≡ apart t.0 → ks ≡ t.0.decoder.kept → xs ≡ t.0.decoder.x_hat_mem → ys ≡ t.0.decoder.x_hat_ltpf_mem →
       (word ≡ number_of t.0.answer) × (arrays ns ks xs ys ≡ where_done t.0.answer (written_decoder t.0.decoder) a)
-  outcome_left (refusal b h) q k x y = rw (w, n, q, k, x, y, ne_eqb (number_of b) 0 h) (refl, refl)
+  outcome_left (refusal b) q k x y = rw (w, n, q, k, x, y, ne_eqb (refusal_number b) 0 (never_done b)) (refl, refl)
   outcome_left (success next o f) q k x y = rw (w, n, q, k, x, y, written_whole _ f) (refl, refl)
 
 -- what a frame in place leaves
@@ -79,11 +81,11 @@ pub lost_left : (n : List ℕ) (r : Registers) → r ≡ read_registers n → Fi
 unfolding lost_from lost_call
 lost_left n r from fits st made word ns w m kept xs ys = rw (w, m, made, from) (go (fit_ring (read_registers n)) (rw from at fits))
   where
-    go : (k : Configured) → Fits32 (read_registers n) →
+    go : (k : Result Lc3Config Refusal) → Fits32 (read_registers n) →
         let l = apart (lost_with (joined (read_registers n) [] [] []) k) in
         (number_of l.answer, arrays (where_done l.answer (numbers_by narrowed l.registers) n) kept xs ys)
         ≡ handed_numbers (arrays n kept xs ys) (lost_with (read_decoder (arrays n kept xs ys)) k)
-    go (Refused a) f = rw (written_whole (read_registers n) f)
-    go (Config c) f =
+    go (Err a) f = rw (written_whole (read_registers n) f)
+    go (Ok c) f =
         let marked : Registers = record { marks = unsettled (read_registers n).marks; block_start_index = (read_registers n).block_start_index } in
         rw (written_whole marked (record { block = f.block; whole = f.whole; quarter = f.quarter }))

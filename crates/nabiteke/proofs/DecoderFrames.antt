@@ -1,4 +1,6 @@
 -- What a frame call of the decoder comes to: refused with the state as it was, or done with registers that C's numbers can hold.
+use Rattle.rates.specs.declared.answer.Refusal.{Refusal}
+use Rattle.std.proofs.Common.{Result, Ok, Err}
 use Prim.Native.Nat.{ℕ, ◌+◌, ◌<◌, ◌^◌}
 use mathlib.Core.Path.{◌≡◌, refl, sym, ap}
 use mathlib.Core.Bool.{Bool, true, false, cond}
@@ -7,18 +9,10 @@ use native.Mathlib.Omega.{arith}
 use lib.Dec.{eqb}
 use lib.Ieee.{Float}
 use lib.ListN.{length}
-use Rattle.rates.specs.Answers.{number_of}
-use Rattle.rates.specs.Configs.{config_of}
-use Rattle.rates.specs.declared.answer.Answer.{Answer}
-use Rattle.rates.specs.declared.answer.Answer.TheVariants.{UnfitState}
 use Rattle.rates.specs.declared.config.Lc3Config.{Lc3Config}
-use Rattle.rates.specs.declared.config.Configured.{Configured}
-use Rattle.rates.specs.declared.config.Configured.TheVariants.{Config, Refused}
 use Rattle.control.specs.Next.{next_marks}
 use Rattle.judging.specs.Judge.{plan_of, judged}
 use Rattle.judging.specs.declared.plan.Plan.{Plan}
-use Rattle.judging.specs.declared.plan.Verdict.{Verdict}
-use Rattle.judging.specs.declared.plan.Verdict.TheVariants.{Accepted}
 use Rattle.judging.proofs.Judging as judging
 use Rattle.judging.proofs.Judging.{declined, passed, verdict}
 use Rattle.rings.specs.Ring.{next_block}
@@ -35,26 +29,8 @@ use Rattle.c_arrays.specs.Registers.{Fits32}
 use Rattle.c_telling.specs.Required.{Narrow}
 use Rattle.c_telling.proofs.Narrow.{plan_small}
 
--- an unfit state is answered with 9
-unfit_number : (d : Decoder) (a : Answer) → fit_decoder d ≡ Refused a → number_of a ≡ 9
-unfit_number d a e = go (config_of d.registers.marks.rate d.registers.marks.duration) e
-  where
-    same : UnfitState ≡ a → number_of a ≡ 9
-    same s = ap number_of (sym s)
-
-    by_fitness : (c : Lc3Config) (b : Bool) → cond b (Config c) (Refused UnfitState) ≡ Refused a → number_of a ≡ 9
-    by_fitness c true q = let z : ◌≡◌ {A = ℕ} 0 1 = cc in absurd (omega arith)
-    by_fitness c false q = same cc
-
-    go : (k : Configured) → fit_as d.registers k ≡ Refused a → number_of a ≡ 9
-    go (Refused b) q = same cc
-    go (Config c) q = by_fitness c (ring_fits c d.registers) q
-
-pub unfit_some : (d : Decoder) (a : Answer) → fit_decoder d ≡ Refused a → number_of a ≡ 0 → ⊥
-unfit_some d a e z = omega (arith, unfit_number d a e)
-
 -- where a frame is accepted, its plan is what is told
-as_accepted : {v w : Verdict} {plan : Plan} → Agree v w → v ≡ Accepted plan → w ≡ Accepted plan
+as_accepted : {v w : Result Plan Refusal} {plan : Plan} → Agree v w → v ≡ Ok plan → w ≡ Ok plan
 as_accepted (refused answer h) e = let z : ◌≡◌ {A = ℕ} 0 1 = cc in absurd (omega arith)
 as_accepted (agreed plan) e = e
 
@@ -71,7 +47,7 @@ module _ (d : Decoder) {plan : Plan} {nums dens frame : List Float} (j : Judged 
   unfolding judged
   next_lag =
       let r = d.registers in
-      let agrees = frame_agrees r.marks nums dens j.side (λ c. eqb (length frame) c.nf) frame (fit_decoder d) (unfit_some d) in
+      let agrees = frame_agrees r.marks nums dens j.side (λ c. eqb (length frame) c.nf) frame (fit_decoder d) in
       (plan_small r j.side plan (as_accepted agrees j.verdict)).0
 
   next_fits : Fits32 (accepted d plan nums dens frame).0.registers
@@ -80,28 +56,28 @@ module _ (d : Decoder) {plan : Plan} {nums dens frame : List Float} (j : Judged 
 
 -- what a frame call can give
 pub data Outcome (d : Decoder) (samples : List Float) : Framed × List Float → Type 0 where
-  refusal : (a : Answer) → (number_of a ≡ 0 → ⊥) → Outcome d samples (framed_as a d, samples)
+  refusal : (b : Refusal) → Outcome d samples (framed_as (Err b) d, samples)
   success : (next : Decoder) (out : List Float) → Fits32 next.registers → Outcome d samples (done (next, out))
 
 pub outcome : (d : Decoder) (f : Given) → Outcome d f.samples (framed_by d f)
 unfolding framed judged
 outcome d f = go (fit_decoder d) refl
   where
-    by_verdict : (c : Lc3Config) → fit_decoder d ≡ Config c → (o : judging.Outcome c f.numerators f.denominators f.side f.samples) →
-        judged d.registers.marks (Config c) f.numerators f.denominators f.side f.samples
+    by_verdict : (c : Lc3Config) → fit_decoder d ≡ Ok c → (o : judging.Outcome c f.numerators f.denominators f.side f.samples) →
+        judged d.registers.marks (Ok c) f.numerators f.denominators f.side f.samples
         ≡ verdict c f.numerators f.denominators f.side f.samples d.registers.marks o →
         Outcome d f.samples (framed_with d f.numerators f.denominators f.samples
-        (judged d.registers.marks (Config c) f.numerators f.denominators f.side f.samples))
-    by_verdict c k (declined a l h) q = rw q (refusal a (λ e. omega arith))
+        (judged d.registers.marks (Ok c) f.numerators f.denominators f.side f.samples))
+    by_verdict c k (declined a l h) q = rw q (refusal a)
     by_verdict c k (passed lag p) q =
         let j : Judged d.registers f.numerators f.denominators f.samples (plan_of d.registers.marks c f.side lag) =
         record { side = f.side; verdict = rw k q } in
         rw q (success _ _ (next_fits d j))
 
-    go : (k : Configured) → fit_decoder d ≡ k →
+    go : (k : Result Lc3Config Refusal) → fit_decoder d ≡ k →
         Outcome d f.samples (framed_with d f.numerators f.denominators f.samples
         (judged d.registers.marks k f.numerators f.denominators f.side f.samples))
-    go (Refused a) e = refusal a (unfit_some d a e)
-    go (Config c) e =
+    go (Err a) e = refusal a
+    go (Ok c) e =
         let o = judging.outcome c f.numerators f.denominators f.side f.samples in
         by_verdict c e o.0 (o.1 d.registers.marks)

@@ -1,4 +1,7 @@
 -- A frame of both ears from C: what the functions put together is what its definition says.
+use Rattle.rates.specs.declared.answer.Refusal.{Refusal}
+use Rattle.rates.specs.declared.config.Lc3Config.{Lc3Config}
+use Rattle.std.proofs.Common.{Result, Ok, Err}
 use Prim.Native.Nat.{ℕ}
 use mathlib.Core.Path.{◌≡◌, refl, ap}
 use mathlib.Core.Bool.{Bool, true, false}
@@ -7,35 +10,28 @@ use native.Mathlib.Omega.{arith}
 use borrow.Author.Tests.{eqb-false}
 use lib.Ieee.{Float}
 use Rattle.rates.specs.Answers.{number_of}
-use Rattle.rates.specs.declared.config.Configured.{Configured}
-use Rattle.rates.specs.declared.config.Configured.TheVariants.{Config, Refused}
 use Rattle.decoder.specs.State.{fit_decoder}
 use Rattle.decoder.specs.declared.state.Decoder.{Decoder}
 use Rattle.ears.specs.InPlace.{both_apart, both_in_place}
 use Rattle.ears_judging.specs.declared.ear.Ear.{Ear}
 use Rattle.ears.specs.declared.frame.BothFramed.{BothFramed}
 use Rattle.ears_laws.specs.Calls.{Headset, WhichEar, left_ear, right_ear, own, Given, framed_both, samples_of, EarGiven, given_to, ear_framed_by}
-use Rattle.ears_laws.proofs.AsOne.{Halved, whole, as_one, refusal_of, refusal_some, whole_framed, other_framed}
+use Rattle.ears_laws.proofs.AsOne.{Halved, whole, as_one, refusal_of, whole_framed, other_framed}
 use Rattle.ears_laws.proofs.Interference.{given_halved}
 use Rattle.c_arrays.specs.Words.{narrowed, where_done}
 use Rattle.c_arrays.specs.Registers.{numbers_by}
 use Rattle.nabiteke.specs.DecoderArrays.{arrays}
 use Rattle.nabiteke.specs.EarCalls.{HeadsetArrays, headset_arrays, ear_of, read_headset, both_call}
-use Rattle.nabiteke.proofs.DecoderFrames.{Outcome, refusal, outcome, unfit_some}
+use Rattle.nabiteke.proofs.DecoderFrames.{Outcome, refusal, outcome}
 use Rattle.nabiteke.proofs.DecoderCalls.{outcome_left}
 
 -- an ear's frame is refused with the state as it was, or done with a state that can be written
 given_outcome : (d : Decoder) (g : EarGiven) → Halved g → Outcome d g.samples (ear_framed_by d g)
 given_outcome d g h = go (whole g) refl
   where
-    some : (b : Bool) (k : Configured) → fit_decoder d ≡ k → number_of (refusal_of b g.shared k) ≡ 0 → ⊥
-    some false k e z = omega arith
-    some true (Refused answer) e z = unfit_some d answer e z
-    some true (Config c) e z = eqb-false (number_of (refusal_of true g.shared (Config c))) 0 (refusal_some true g.shared c) z
-
     go : (b : Bool) → whole g ≡ b → Outcome d g.samples (ear_framed_by d g)
     go true w = rw (whole_framed g d w) (outcome d (as_one g))
-    go false w = rw (other_framed g d h w) (refusal (refusal_of g.shared.alike g.shared (fit_decoder d)) (some g.shared.alike (fit_decoder d) refl))
+    go false w = rw (other_framed g d h w) (refusal (refusal_of g.shared.alike g.shared (fit_decoder d)))
 
 pub ear_outcome : (e : WhichEar) (h : Headset) (f : Given) → Outcome (own e h) (samples_of e f.samples) (ear_framed_by (own e h) (given_to e h f))
 ear_outcome e h f = given_outcome (own e h) (given_to e h f) (given_halved e h f)

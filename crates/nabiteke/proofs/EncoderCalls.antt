@@ -1,4 +1,8 @@
 -- What the encoder's functions put together is what the definitions of the calls say.
+use Rattle.rates.proofs.Refusals.{never_done}
+use Rattle.rates.specs.declared.answer.Refusal.{Refusal}
+use Rattle.rates.specs.declared.config.Lc3Config.{Lc3Config}
+use Rattle.std.proofs.Common.{Result, Ok, Err}
 use Prim.Native.Nat.{ℕ, ◌<◌, ◌^◌}
 use mathlib.Core.Path.{◌≡◌, ap, ◌∙◌}
 use mathlib.Core.Bool.{Bool, true, false, cond}
@@ -7,10 +11,8 @@ use native.Mathlib.Omega.{arith}
 use borrow.Author.Tests.{ne_eqb}
 use lib.Dec.{eqb}
 use lib.Ieee.{Float}
-use Rattle.rates.specs.Answers.{number_of}
+use Rattle.rates.specs.Answers.{refusal_number, number_of}
 use Rattle.rates.specs.Configs.{config_of}
-use Rattle.rates.specs.declared.config.Configured.{Configured}
-use Rattle.rates.specs.declared.config.Configured.TheVariants.{Config, Refused}
 use Rattle.encoder.specs.State.{started_with, started}
 use Rattle.encoder.specs.Frame.{framed}
 use Rattle.encoder.specs.declared.state.Encoder.{Encoder}
@@ -44,9 +46,9 @@ all_left false a e ns m s t u n k = same_arrays a ns m s t u n k
 started_fits : (rate duration : ℕ) → (started rate duration).encoder.t_prev < 2 ^ 32
 started_fits rate duration = go (config_of rate duration)
   where
-    go : (k : Configured) → (started_with k rate duration).encoder.t_prev < 2 ^ 32
-    go (Config c) = omega arith
-    go (Refused a) = omega arith
+    go : (k : Result Lc3Config Refusal) → (started_with k rate duration).encoder.t_prev < 2 ^ 32
+    go (Ok c) = omega arith
+    go (Err a) = omega arith
 
 pub start_left : (rate duration : ℕ) (r : Started) → r ≡ started rate duration → (word : ℕ) (ns : List ℕ) (m s t u : List Float) →
     word ≡ number_of r.answer → ns ≡ numbers_by narrowed r.encoder → (m, s, t, u) ≡ floats_of r.encoder →
@@ -67,7 +69,7 @@ module _ (a : EncoderArrays) (f : Given) (e : Encoder) (near : Bool) (r : Framed
     where
       go : (q : Framed) → Outcome (read_encoder a) q →
           where_done q.answer (numbers_by narrowed q.encoder) a.numbers ≡ where_done q.answer (numbers_of q.encoder) a.numbers
-      go q (refusal b h) = rw (ne_eqb (number_of b) 0 h)
+      go q (refusal b) = rw (ne_eqb (refusal_number b) 0 (never_done b))
       go q (success _ d l) = rw (written_whole q.encoder (omega arith))
 
   -- the state of a frame that is done is written; a refused frame leaves the arrays

@@ -1,6 +1,9 @@
 -- THE ENCODER FROM C. `calls_kept`, `calls_answered`: whatever bytes the arrays hold, calls from C, one after the other, leave in them the state that
 -- the same calls of the encoder give, and C gets what those calls give. `recorded`: which answers and records a frame call gives.
 -- `zero_frame`: numbers of zero bytes are answered with 9, and nothing changes.
+use Rattle.rates.proofs.Refusals.{never_done}
+use Rattle.rates.specs.declared.answer.Refusal.{Refusal}
+use Rattle.std.proofs.Common.{Result, Ok, Err}
 use Prim.Native.Nat.{ℕ}
 use mathlib.Core.Path.{◌≡◌, refl}
 use mathlib.Core.Bool.{Bool, true, false, cond}
@@ -9,11 +12,9 @@ use borrow.Author.Tests.{ne_eqb}
 use lib.Ieee.{Float}
 use lib.ListN.{replicate}
 use Rattle.call_laws.proofs.Kept.{all_kept, each_shown}
-use Rattle.rates.specs.Answers.{number_of}
+use Rattle.rates.specs.Answers.{refusal_number, number_of}
 use Rattle.rates.specs.Table.{find}
 use Rattle.rates.specs.declared.config.Lc3Config.{Lc3Config}
-use Rattle.rates.specs.declared.config.Configured.{Configured}
-use Rattle.rates.specs.declared.config.Configured.TheVariants.{Config, Refused}
 use Rattle.encoder.specs.Judge.{judged}
 use Rattle.encoder.specs.State.{started, fit_config}
 use Rattle.found.specs.Found as Found
@@ -30,7 +31,7 @@ use Rattle.c_arrays.specs.Pitch.{record_of}
 use Rattle.c_encoder.specs.State.{EncoderArrays, arrays, read_encoder, written_encoder}
 use Rattle.c_arrays.proofs.Flags.{flag_back}
 use Rattle.nabiteke.specs.EncoderCalls.{start_call, frame_call, handed, shown, arrays_after, answered, in_arrays, arrays_after_all, answered_all, Recorded, refused, absent, present}
-use Rattle.nabiteke.proofs.EncoderFrames.{Outcome, refusal, success, refused_some, outcome}
+use Rattle.nabiteke.proofs.EncoderFrames.{Outcome, refusal, success, outcome}
 
 -- a state that was written reads back
 pub read_written : (e : Encoder) → read_encoder (written_encoder e) ≡ e
@@ -44,7 +45,7 @@ call_kept a (start rate duration) = read_written (started rate duration).encoder
 call_kept a (frame f) = go (framed_with (read_encoder a) f) (outcome (read_encoder a) f)
   where
     go : (r : Framed) → Outcome (read_encoder a) r → read_encoder (handed a r).1 ≡ r.encoder
-    go r (refusal b h) = rw (ne_eqb (number_of b) 0 h)
+    go r (refusal b) = rw (ne_eqb (refusal_number b) 0 (never_done b))
     go r (success _ d l) = rw d (read_written r.encoder)
 
 -- calls one after the other
@@ -75,9 +76,9 @@ pub recorded : (a : EncoderArrays) (f : Given) → Recorded (frame_call a f).0 (
 unfolding judged encoded frame_call
 recorded a f = go (judged (read_encoder a) f.resampling f.correlation f.signal f.samples f.nbits) refl
   where
-    go : (k : Configured) → judged (read_encoder a) f.resampling f.correlation f.signal f.samples f.nbits ≡ k → Recorded (frame_call a f).0 (frame_call a f).2
-    go (Refused b) h = rw h (refused (number_of b) (refused_some (fit_config (read_encoder a)) f b h))
-    go (Config c) h = rw h (found_recorded c _ _ _ _ _ _ _ (rw h at (decoder_takes (read_encoder a) f.resampling f.correlation f.signal f.samples f.nbits f.near)))
+    go : (k : Result Lc3Config Refusal) → judged (read_encoder a) f.resampling f.correlation f.signal f.samples f.nbits ≡ k → Recorded (frame_call a f).0 (frame_call a f).2
+    go (Err b) h = rw h (refused (refusal_number b) (never_done b))
+    go (Ok c) h = rw h (found_recorded c _ _ _ _ _ _ _ (rw h at (decoder_takes (read_encoder a) f.resampling f.correlation f.signal f.samples f.nbits f.near)))
 
 -- numbers of zero bytes
 pub zero_frame : (memories s m l : List Float) (f : Given) →

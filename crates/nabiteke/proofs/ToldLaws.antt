@@ -1,6 +1,9 @@
 -- WHAT IS TOLD IS DONE. `told_done_lem`, `ear_told`: where a frame, or an ear's part of one, is answered 0, it was told with 0, and all that the call gives
 -- back is what an accepted frame gives whose plan is the told one. `told_refused_lem`, `ear_told_refused`: where it is told with another answer, its call is
 -- not answered 0.
+use Rattle.rates.proofs.Refusals.{never_done}
+use Rattle.rates.specs.declared.answer.Refusal.{Refusal}
+use Rattle.std.proofs.Common.{Result}
 use Prim.Native.Nat.{ℕ}
 use mathlib.Core.Path.{◌≡◌, refl, ap}
 use mathlib.Core.Bool.{Bool, true, false}
@@ -11,11 +14,10 @@ use lib.IntN.{ℤ}
 use lib.Ieee.{Float}
 use lib.ListN.{length}
 use Rattle.rates.specs.Answers.{number_of}
-use Rattle.rates.specs.declared.answer.Answer.TheVariants.{EarsDiffer}
+use Rattle.rates.specs.declared.answer.Refusal.TheVariants.{EarsDiffer}
 use Rattle.judging.specs.Judge.{judged}
 use Rattle.judging.specs.declared.plan.SideInfo.{SideInfo}
 use Rattle.judging.specs.declared.plan.Plan.{Plan}
-use Rattle.judging.specs.declared.plan.Verdict.{Verdict}
 use Rattle.telling.specs.Told.{judged_fitted, told_of}
 use Rattle.telling.proofs.Agreement.{Agree, refused, accepted, frame_agrees}
 use Rattle.decoder.specs.State.{fit_decoder}
@@ -33,7 +35,6 @@ use Rattle.nabiteke.specs.DecoderArrays.{DecoderArrays, read_decoder}
 use Rattle.nabiteke.specs.DecoderCalls.{frame_call}
 use Rattle.nabiteke.specs.EarCalls.{HeadsetArrays, read_headset, both_call, arrays_of, answer_to}
 use Rattle.nabiteke.specs.ToldCalls.{told_numbers, told_call}
-use Rattle.nabiteke.proofs.DecoderFrames.{unfit_some}
 
 -- A frame of a decoder with these numbers and side information that gave this is done as it is told: there is a plan by which it was made, and what is
 -- told is that plan.
@@ -44,7 +45,7 @@ pub record AsTold (numbers : List ℕ) (d : Decoder) (numerators denominators : 
   pub told : told_call numbers side ≡ told_numbers (told_done (told_of plan side.pitch))
 
 -- by the verdict
-by_verdict : (numbers : List ℕ) (d : Decoder) (numerators denominators : List Float) (side : SideInfo) (samples : List Float) {v w : Verdict} →
+by_verdict : (numbers : List ℕ) (d : Decoder) (numerators denominators : List Float) (side : SideInfo) (samples : List Float) {v w : Result Plan Refusal} →
     Agree v w → told_call numbers side ≡ told_numbers (told_by side.pitch w) →
     number_of (framed_with d numerators denominators samples v).0.answer ≡ 0 →
     AsTold numbers d numerators denominators side samples (framed_with d numerators denominators samples v)
@@ -58,7 +59,7 @@ unfolding frame_call framed judged told_for
 told_done_lem a f e =
     by_verdict a.numbers (read_decoder a) f.numerators f.denominators f.side f.samples
     (frame_agrees (read_decoder a).registers.marks f.numerators f.denominators f.side (λ c. eqb (length f.samples) c.nf) f.samples
-    (fit_decoder (read_decoder a)) (unfit_some (read_decoder a))) refl e
+    (fit_decoder (read_decoder a))) refl e
 
 pub told_refused_lem : (a : DecoderArrays) (f : Given) → ((told_call a.numbers f.side).0 ≡ 0 → ⊥) → (frame_call a f).0 ≡ 0 → ⊥
 told_refused_lem a f h e = h (ap (λ (t : ℕ × List ℕ × ℤ). t.0) (told_done_lem a f e).told)
@@ -66,8 +67,8 @@ told_refused_lem a f h e = h (ap (λ (t : ℕ × List ℕ × ℤ). t.0) (told_do
 -- an ear
 ear_agrees : (b : Bool) (s : Shared) (d : Decoder) (side : SideInfo) (own : List Float) → side.nbits ≡ s.nbits →
     Agree (judged_ear b s d.registers side.pitch own) (judged_fitted d.registers.marks side (fit_decoder d))
-ear_agrees false s d side own n = refused EarsDiffer (λ e. omega arith)
-ear_agrees true s d side own n = rw (← n) (frame_agrees d.registers.marks s.numerators s.denominators side (two_frames s.count) own (fit_decoder d) (unfit_some d))
+ear_agrees false s d side own n = refused EarsDiffer (never_done EarsDiffer)
+ear_agrees true s d side own n = rw (← n) (frame_agrees d.registers.marks s.numerators s.denominators side (two_frames s.count) own (fit_decoder d))
 
 -- its side information
 abbrev pub side_of : WhichEar → ears.Given → SideInfo

@@ -22,17 +22,14 @@ pub extern "C" fn nabiteke_decoder_start_(
     ensures { (result, arrays numbers.new kept.new inputs.new outputs.new) ≡ start_call rate duration }
 {
     let started = start(rate, duration);
-    let answer = started.answer;
-    let decoder = started.decoder;
-    let registers = decoder.registers;
-    let next_kept = decoder.kept;
-    let x_hat_mem = decoder.x_hat_mem;
-    let x_hat_ltpf_mem = decoder.x_hat_ltpf_mem;
-    write_numbers(numbers, registers);
+    let next_kept = started.decoder.kept;
+    let x_hat_mem = started.decoder.x_hat_mem;
+    let x_hat_ltpf_mem = started.decoder.x_hat_ltpf_mem;
+    write_numbers(numbers, started.decoder.registers);
     *kept = next_kept;
     *inputs = x_hat_mem;
     *outputs = x_hat_ltpf_mem;
-    answer_word(answer)
+    answer_word(started.answer)
 }
 
 // Filters one frame of samples in place.

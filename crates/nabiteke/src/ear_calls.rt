@@ -54,9 +54,7 @@ pub extern "C" fn nabiteke_decoder_frame_both_(
         sides[6],
         samples,
     );
-    let left_result = both.left;
-    let right_result = both.right;
-    let left_answer = write_numbers_if_done(left_numbers, left_result);
-    let right_answer = write_numbers_if_done(right_numbers, right_result);
+    let left_answer = write_numbers_if_done(left_numbers, both.left);
+    let right_answer = write_numbers_if_done(right_numbers, both.right);
     *answers = [left_answer, right_answer];
 }

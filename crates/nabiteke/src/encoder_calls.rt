@@ -24,11 +24,9 @@ pub extern "C" fn nabiteke_encoder_start_(
     ensures { (result, arrays numbers.new memories.new x_s.new x_12p8.new x_6p4.new) ≡ start_call rate duration }
 {
     let started = start(rate, duration);
-    let answer = started.answer;
-    let encoder = started.encoder;
-    write_numbers(numbers, encoder);
-    write_floats(memories, x_s, x_12p8, x_6p4, encoder);
-    answer_word(answer)
+    write_numbers(numbers, started.encoder);
+    write_floats(memories, x_s, x_12p8, x_6p4, started.encoder);
+    answer_word(started.answer)
 }
 
 // Finds the pitch of one frame of samples.
@@ -52,8 +50,7 @@ pub extern "C" fn nabiteke_encoder_frame_(
     let encoder = read_encoder(numbers, memories, x_s, x_12p8, x_6p4);
     let near = is_yes(near_nyquist);
     let framed = encoder.frame(resampling, correlation, signal, samples, nbits, near);
-    let pitch = framed.pitch;
-    write_record(record, pitch, framed.nbits_ltpf);
+    write_record(record, framed.pitch, framed.nbits_ltpf);
     write_floats_if_done(memories, x_s, x_12p8, x_6p4, framed);
     write_numbers_if_done(numbers, framed)
 }

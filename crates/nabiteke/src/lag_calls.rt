@@ -17,8 +17,6 @@ pub extern "C" fn nabiteke_lag_of_(
 {
     let found = look_up(rate, index);
     *lag = [found.whole, found.quarter];
-    let by = found.rounding;
-    *rounding = by;
-    let answer = found.answer;
-    answer_word(answer)
+    *rounding = found.rounding;
+    answer_word(found.answer)
 }

@@ -21,8 +21,7 @@ pub extern "C" fn nabiteke_pitch_write_(
     let pitch = pitch_from(pitch_present, pitch_index, pitch_active);
     let writing = write_pitch(bytes, pitch);
     *written = writing.written;
-    let answer = writing.answer;
-    answer_word(answer)
+    answer_word(writing.answer)
 }
 
 // Reads the pitch at the beginning of the caller's bytes.
@@ -31,8 +30,6 @@ pub extern "C" fn nabiteke_pitch_read_(bytes: &[u8], record: &mut [u32; 4]) -> u
     ensures { (result, «record».new) ≡ read_call bytes.now }
 {
     let reading = read_pitch(bytes);
-    let pitch = reading.pitch;
-    write_record(record, pitch, reading.used as u32);
-    let answer = reading.answer;
-    answer_word(answer)
+    write_record(record, reading.pitch, reading.used as u32);
+    answer_word(reading.answer)
 }

@@ -25,19 +25,14 @@ pub extern "C" fn nabiteke_decoder_told_(
     let registers = read_registers(numbers);
     let side = side_from(pitch_present, pitch_index, pitch_active, nbits);
     let frame = tell(registers, side);
-    let gain = frame.gain;
-    let active = as_flag(frame.active);
-    let gain_on = as_flag(gain.on);
     *told = [
         frame.transition,
-        active,
+        as_flag(frame.active),
         frame.whole,
         frame.quarter,
-        gain_on,
-        gain.row,
+        as_flag(frame.gain.on),
+        frame.gain.row,
     ];
-    let by = frame.rounding;
-    *rounding = by;
-    let answer = frame.answer;
-    answer_word(answer)
+    *rounding = frame.rounding;
+    answer_word(frame.answer)
 }

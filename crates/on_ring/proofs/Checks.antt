@@ -1,4 +1,5 @@
 -- What a plan that judging gave has on a ring: a block inside the history, and a frame that can be filtered between the rings.
+use Rattle.std.proofs.Common.{Ok}
 use Prim.Native.Nat.{◌+◌, ◌≤◌}
 use mathlib.Core.Path.{◌≡◌}
 use mathlib.Core.Bool.{true}
@@ -6,7 +7,6 @@ use mathlib.Core.List.{List}
 use native.Mathlib.Omega.{arith}
 use lib.Ieee.{Float}
 use lib.ListN.{length}
-use Rattle.rates.specs.declared.config.Configured.TheVariants.{Config}
 use Rattle.control.proofs.Sizes.{FromTable, Sized}
 use Rattle.control.proofs.Fit.{Fits}
 use Rattle.judging.specs.Judge.{plan_of}
@@ -19,7 +19,7 @@ use Rattle.on_ring.specs.declared.registers.Registers.{Registers}
 use Rattle.on_ring.proofs.RingFits.{ring_fits_lem, block_inside, newest_fits}
 
 module _ {r : Registers} {nums dens frame : List Float} {plan : Plan} (j : Judged r nums dens frame plan) where
-  fitted : fit_ring r ≡ Config plan.config
+  fitted : fit_ring r ≡ Ok plan.config
   fitted = (accepted_plan r.marks (fit_ring r) nums dens j.side frame plan j.verdict).0
 
   pub as_planned : plan ≡ plan_of r.marks plan.config j.side plan.lag

@@ -1,4 +1,6 @@
 -- The filter of a plan, read back from its coefficients; and that of the first case, whose coefficients are all 0.0.
+use Rattle.lag.specs.declared.gain.Gain.{Gain}
+use Rattle.std.proofs.Common.{Option}
 use Prim.Native.Nat.{ℕ, ◌≤◌}
 use mathlib.Core.Path.{◌≡◌, refl, sym, ◌∙◌, ap}
 use mathlib.Core.Bool.{Bool, true, false}
@@ -6,7 +8,6 @@ use mathlib.Core.List.{List}
 use lib.Ieee.{Float}
 use lib.ListN.{replicate}
 use Rattle.floats.specs.Single.{0·0}
-use Rattle.lag.specs.declared.gain.Gain.{Gain}
 use Rattle.lag.specs.declared.rescale.Lag.{Lag}
 use Rattle.coefficients.specs.Coefficients.{filter_of, new_filter, laid_out, read_out}
 use Rattle.coefficients.proofs.LaidOut.{new_read_back}
@@ -14,7 +15,7 @@ use Rattle.judging.specs.Filters.{filter_for}
 use Rattle.judging.specs.declared.plan.Plan.{Plan}
 
 -- its lag is the plan's, which an inactive frame does not have
-new_lag : (order : ℕ) (active : Bool) (gain : Gain) (lag : Lag) (nums dens : List Float) → (active ≡ false → lag.whole ≡ 0) →
+new_lag : (order : ℕ) (active : Bool) (gain : Option Gain) (lag : Lag) (nums dens : List Float) → (active ≡ false → lag.whole ≡ 0) →
     (new_filter order active gain lag nums dens).lag ≡ lag.whole
 unfolding new_filter filter_of
 new_lag order true gain lag nums dens h = refl

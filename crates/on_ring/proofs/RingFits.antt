@@ -1,4 +1,6 @@
 -- What a block start that fits has: a block inside the history, with samples before the newest one's end; and the block after it fits too.
+use Rattle.rates.specs.declared.answer.Refusal.{Refusal}
+use Rattle.std.proofs.Common.{Result, Ok, Err}
 use Prim.Native.Nat.{ℕ, zero, suc, ◌+◌, ◌*◌, ◌/◌, ◌%◌, ◌≤◌, ◌<◌}
 use mathlib.Core.Path.{◌≡◌, refl}
 use mathlib.Core.Bool.{Bool, true, false, cond}
@@ -7,12 +9,10 @@ use native.Mathlib.Omega.{arith}
 use borrow.Author.Tests.{lt-ltb, ltb-true, eqb-true, eqb-false}
 use lib.Dec.{ltb, eqb}
 use Rattle.rates.specs.Configs.{frame_of, history_of, config_of}
-use Rattle.rates.specs.declared.answer.Answer.TheVariants.{UnfitState}
+use Rattle.rates.specs.declared.answer.Refusal.TheVariants.{UnfitState}
 use Rattle.rates.specs.declared.duration.FrameDuration.{FrameDuration}
 use Rattle.rates.specs.declared.duration.FrameDuration.TheVariants.{TenMs, SevenPointFiveMs}
 use Rattle.rates.specs.declared.config.Lc3Config.{Lc3Config}
-use Rattle.rates.specs.declared.config.Configured.{Configured}
-use Rattle.rates.specs.declared.config.Configured.TheVariants.{Config, Refused}
 use Rattle.rates.proofs.Known.{both}
 use Rattle.control.specs.State.{fit}
 use Rattle.control.proofs.Sizes.{FromTable, sized}
@@ -74,22 +74,22 @@ next_block_lem c start some h m = go (eqb (start + c.nf) c.history) refl
         rw (lt-ltb (start + c.nf) c.history (omega arith), add-mod_right start c.nf, m)
 
 -- fit registers have fit marks and a block start that fits
-pub ring_fits_lem : (r : Registers) (c : Lc3Config) → fit_ring r ≡ Config c → Fits c r.marks × (block_fits c r.block_start_index ≡ true)
+pub ring_fits_lem : (r : Registers) (c : Lc3Config) → fit_ring r ≡ Ok c → Fits c r.marks × (block_fits c r.block_start_index ≡ true)
 ring_fits_lem r c h = go (config_of r.marks.rate r.marks.duration) refl h
   where
-    picked : (k : Lc3Config) (b : Bool) → ring_fits k r ≡ b → config_of r.marks.rate r.marks.duration ≡ Config k →
-        cond b (Config k) (Refused UnfitState) ≡ Config c → Fits c r.marks × (block_fits c r.block_start_index ≡ true)
+    picked : (k : Lc3Config) (b : Bool) → ring_fits k r ≡ b → config_of r.marks.rate r.marks.duration ≡ Ok k →
+        cond b (Ok k) (Err UnfitState) ≡ Ok c → Fits c r.marks × (block_fits c r.block_start_index ≡ true)
     picked k true f e q =
         let same : k ≡ c = cc in
         let t = both (fit c r.marks) (block_fits c r.block_start_index) (rw same at f) in
         (fits_as r.marks c (rw same at e) t.0, t.1)
     picked k false f e q = let z : ◌≡◌ {A = ℕ} 0 1 = cc in absurd (omega arith)
 
-    go : (k : Configured) → config_of r.marks.rate r.marks.duration ≡ k → fit_as r k ≡ Config c →
+    go : (k : Result Lc3Config Refusal) → config_of r.marks.rate r.marks.duration ≡ k → fit_as r k ≡ Ok c →
         Fits c r.marks × (block_fits c r.block_start_index ≡ true)
-    go (Refused a) e q = let z : ◌≡◌ {A = ℕ} 0 1 = cc in absurd (omega arith)
-    go (Config k) e q = picked k (ring_fits k r) refl e q
+    go (Err a) e q = let z : ◌≡◌ {A = ℕ} 0 1 = cc in absurd (omega arith)
+    go (Ok k) e q = picked k (ring_fits k r) refl e q
 
 -- and the other way round
-pub fits_ring : (r : Registers) (c : Lc3Config) → Fits c r.marks → block_fits c r.block_start_index ≡ true → fit_ring r ≡ Config c
+pub fits_ring : (r : Registers) (c : Lc3Config) → Fits c r.marks → block_fits c r.block_start_index ≡ true → fit_ring r ≡ Ok c
 fits_ring r c f b = rw (f.config, f.lag, f.run, b)

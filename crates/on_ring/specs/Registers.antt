@@ -1,10 +1,9 @@
 -- The registers of a decoder on a ring: which are fit, and those after a frame.
-use Rattle.std.specs.Prelude.{ℕ, ◌%◌, Bool, cond, ◌&&◌, ltb, eqb}
+use Rattle.rates.specs.declared.answer.Refusal.{Refusal}
+use Rattle.std.specs.Prelude.{ℕ, ◌%◌, Bool, cond, ◌&&◌, ltb, eqb, Result, Ok, Err}
 use Rattle.rates.specs.Configs.{config_of}
-use Rattle.rates.specs.declared.answer.Answer.TheVariants.{UnfitState}
+use Rattle.rates.specs.declared.answer.Refusal.TheVariants.{UnfitState}
 use Rattle.rates.specs.declared.config.Lc3Config.{Lc3Config}
-use Rattle.rates.specs.declared.config.Configured.{Configured}
-use Rattle.rates.specs.declared.config.Configured.TheVariants.{Config, Refused}
 use Rattle.control.specs.State.{fit}
 use Rattle.control.specs.Next.{next_marks}
 use Rattle.judging.specs.declared.plan.Plan.{Plan}
@@ -20,12 +19,12 @@ abbrev pub ring_fits : Lc3Config → Registers → Bool
 ring_fits c r = fit c r.marks && block_fits c r.block_start_index
 
 -- an unknown rate or duration is unfit too
-abbrev pub fit_as : Registers → Configured → Configured
-fit_as r (Refused a) = Refused UnfitState
-fit_as r (Config c) = cond (ring_fits c r) (Config c) (Refused UnfitState)
+abbrev pub fit_as : Registers → Result Lc3Config Refusal → Result Lc3Config Refusal
+fit_as r (Err a) = Err UnfitState
+fit_as r (Ok c) = cond (ring_fits c r) (Ok c) (Err UnfitState)
 
 -- the configuration of fit registers; others are refused with 9
-abbrev pub fit_ring : Registers → Configured
+abbrev pub fit_ring : Registers → Result Lc3Config Refusal
 fit_ring r = fit_as r (config_of r.marks.rate r.marks.duration)
 
 -- after a frame: the marks, and the block that follows

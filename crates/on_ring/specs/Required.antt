@@ -1,5 +1,5 @@
 -- What the functions of this crate ask of their callers, who are the decoder and the ears and no users.
-use Rattle.std.specs.Prelude.{ℕ, ◌≤◌, ◌≡◌, false, List, Float}
+use Rattle.std.specs.Prelude.{ℕ, ◌≤◌, ◌≡◌, false, List, Float, Ok}
 use Rattle.coefficients.specs.Coefficients.{gain_row, read_out}
 use Rattle.coefficients.specs.Required.{Lent}
 use Rattle.filter.specs.declared.transition.Transition.TheVariants.{Inactive}
@@ -7,7 +7,6 @@ use Rattle.judging.specs.Judge.{judged}
 use Rattle.judging.specs.Filters.{filter_for}
 use Rattle.judging.specs.declared.plan.SideInfo.{SideInfo}
 use Rattle.judging.specs.declared.plan.Plan.{Plan}
-use Rattle.judging.specs.declared.plan.Verdict.TheVariants.{Accepted}
 use Rattle.rings.specs.Required.{Filterable}
 use Rattle.on_ring.specs.Registers.{fit_ring}
 use Rattle.on_ring.specs.declared.registers.Registers.{Registers}
@@ -24,4 +23,4 @@ pub record Filtering (lag start : ℕ) (plan : Plan) (kept xs ys nums dens : Lis
 -- some side information led to this plan
 pub record Judged (r : Registers) (numerators denominators samples : List Float) (plan : Plan) : Type 0 where
   pub side : SideInfo
-  pub verdict : judged r.marks (fit_ring r) numerators denominators side samples ≡ Accepted plan
+  pub verdict : judged r.marks (fit_ring r) numerators denominators side samples ≡ Ok plan

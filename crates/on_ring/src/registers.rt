@@ -7,8 +7,8 @@ use control::fitness::fits;
 use control::marks::Marks;
 use control::next::advance;
 use judging::plan::Plan;
-use rates::answer::Answer;
-use rates::config::{Configured, Lc3Config, config};
+use rates::answer::Refusal;
+use rates::config::{Lc3Config, config};
 
 // The marks, and where the next block starts in both rings.
 #[derive(Clone, Copy)]
@@ -18,15 +18,12 @@ pub struct Registers {
 }
 
 // Whether a block of the used history starts there.
+#[tactic(auto, unfolding(crate::specs::Registers::block_fits))]
 fn block_fits(config: Lc3Config, start: usize) -> bool
     requires { 0 < config.nf }
     ensures { result ≡ block_fits config start }
 {
-    let nf = config.nf;
-    if start < config.history {
-        return start % nf == 0;
-    }
-    false
+    start < config.history && start % config.nf == 0
 }
 
 // Whether registers fit the configuration that they name.
@@ -34,25 +31,20 @@ pub fn ring_fits(registers: Registers, config: Lc3Config) -> bool
     requires { 0 < config.nf }
     ensures { result ≡ ring_fits config registers }
 {
-    let marks = registers.marks;
-    if !fits(marks, config) {
-        return false;
-    }
-    block_fits(config, registers.block_start_index)
+    fits(registers.marks, config) && block_fits(config, registers.block_start_index)
 }
 
 // The configuration of fit registers. Unfit ones are refused.
-pub fn fit_ring(registers: Registers) -> Configured
+pub fn fit_ring(registers: Registers) -> Result<Lc3Config, Refusal>
     ensures { result ≡ fit_ring registers }
 {
     let marks = registers.marks;
-    let Configured::Config(found) = config(marks.rate, marks.duration) else {
-        return Configured::Refused(Answer::UnfitState);
-    };
-    if !ring_fits(registers, found) {
-        return Configured::Refused(Answer::UnfitState);
+    let found = config(marks.rate, marks.duration).map_err(|_| Refusal::UnfitState)?;
+    if ring_fits(registers, found) {
+        Ok(found)
+    } else {
+        Err(Refusal::UnfitState)
     }
-    Configured::Config(found)
 }
 
 // Where the next block starts: after this one, or at the front again.
@@ -69,11 +61,9 @@ pub fn move_on(registers: Registers, plan: Plan) -> Registers
     requires { registers.block_start_index + plan.config.nf ≤ 1440 }
     ensures { result ≡ moved_on registers plan }
 {
-    let marks = registers.marks;
     let config = plan.config;
-    let lag = plan.lag;
     Registers {
-        marks: advance(marks, plan.active, lag),
+        marks: advance(registers.marks, plan.active, plan.lag),
         block_start_index: next_block(config.history, config.nf, registers.block_start_index),
     }
 }

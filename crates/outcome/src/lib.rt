@@ -20,7 +20,8 @@ pub enum Output {
     Closed,
 }
 
-// How a program has fared so far: whether something failed, and what became of its output.
+// How a program has fared so far: whether something failed, and what became of its output. Functions take it
+// beside the runtime and not in one value with it: it changes, the runtime does not, and promises are of it alone.
 #[derive(Clone, Copy)]
 pub struct Outcome {
     pub has_failed: bool,
@@ -42,11 +43,7 @@ impl Outcome {
     pub fn is_taken(&self) -> bool
         ensures { result ≡ is_taken self.now.output }
     {
-        match self.output {
-            Output::Open => true,
-            Output::Lost => false,
-            Output::Closed => false,
-        }
+        matches!(self.output, Output::Open)
     }
 
     // The status that the program ends with: 0, or 1 where something failed. Where nobody reads its
@@ -56,7 +53,7 @@ impl Outcome {
         ensures { exit_status result ≡ status_of self.now.has_failed self.now.output }
     {
         match self.output {
-            Output::Open => ExitCode::from(if self.has_failed { 1 } else { 0 }),
+            Output::Open => ExitCode::from(u8::from(self.has_failed)),
             Output::Lost => ExitCode::from(1),
             Output::Closed => ExitCode::from(141),
         }
@@ -71,25 +68,20 @@ pub fn failed(outcome: &mut Outcome)
 }
 
 // Puts an argument at the start of space, and answers its length: 0 where there is none, or where it is
-// longer than space.
+// longer than space. Callers show or compare the text, and an empty one serves them then; so it is no Option.
 pub fn argument(rt: &HostRuntime, argument: usize, space: &mut [u8]) -> usize
     ensures { IsPrefixLen result space.new }
 {
-    match rt.arg(argument, space) {
-        Ok(length) => length,
-        Err(_) => 0,
-    }
+    rt.arg(argument, space).unwrap_or(0)
 }
 
 // Where the last part of a path begins.
 fn last_part(path: &[u8]) -> usize
     ensures { result ≤ length path.now }
 {
-    let mut start = path.len();
-    while start > 0 && path[start - 1] != b'/' {
-        start -= 1;
-    }
-    start
+    path.iter()
+        .rposition(|&byte| byte == b'/')
+        .map_or(0, |slash| slash + 1)
 }
 
 // The name that the program was called by, without its folders, put in space.

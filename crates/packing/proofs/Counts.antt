@@ -7,7 +7,7 @@ use native.Mathlib.Nat.{zero-add}
 use native.Mathlib.Omega.{arith}
 use borrow.Author.Tests.{ne_eqb, leb-true, leb-false}
 use lib.Dec.{eqb, leb}
-use Rattle.rates.specs.declared.answer.Answer.TheVariants.{PaddingSet}
+use Rattle.rates.specs.declared.answer.Refusal.TheVariants.{PaddingSet}
 use Rattle.lag.specs.declared.pitch.PitchRecord.TheVariants.{Absent}
 use Rattle.packing.specs.Readings.{refused_reading, reading}
 use Rattle.packing.specs.Pairs.{sum_below, pairs_with, as_present, as_absent}

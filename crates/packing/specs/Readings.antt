@@ -1,7 +1,7 @@
 -- A record read from the first of some bytes.
-use Rattle.std.specs.Prelude.{ℕ, ◌+◌, ◌/◌, Bool, true, false, cond, List, [], ◌∷◌, ltb, length, take, drop, get_or}
-use Rattle.rates.specs.declared.answer.Answer.{Answer}
-use Rattle.rates.specs.declared.answer.Answer.TheVariants.{Done, PaddingSet, TooFewBytes}
+use Rattle.std.specs.Prelude.{ℕ, ◌+◌, ◌/◌, Bool, true, false, cond, List, [], ◌∷◌, ltb, length, take, drop, get_or, Ok, Err}
+use Rattle.rates.specs.declared.answer.Refusal.{Refusal}
+use Rattle.rates.specs.declared.answer.Refusal.TheVariants.{PaddingSet, TooFewBytes}
 use Rattle.lag.specs.declared.pitch.PitchRecord.{PitchRecord}
 use Rattle.lag.specs.declared.pitch.PitchRecord.TheVariants.{Absent, Present}
 use Rattle.packing.specs.Bits.{bits_in, value_of, clear}
@@ -9,13 +9,13 @@ use Rattle.packing.specs.Form.{padding}
 use Rattle.packing.specs.declared.read.Reading.{Reading}
 
 -- a refused reading gives absent, with 0 bytes used
-abbrev pub refused_reading : Answer → Reading
-refused_reading answer = record { answer = answer; pitch = Absent; used = 0 }
+abbrev pub refused_reading : Refusal → Reading
+refused_reading refusal = record { answer = Err refusal; pitch = Absent; used = 0 }
 
 -- a record of the first n bits; 12 where one of those after them is set, up to the end of the byte
 abbrev pub read_as : PitchRecord → ℕ → List Bool → Reading
 read_as pitch n bits =
-    cond (clear (take (padding n) (drop n bits))) (record { answer = Done; pitch = pitch; used = (n + padding n) / 8 })
+    cond (clear (take (padding n) (drop n bits))) (record { answer = Ok tt; pitch = pitch; used = (n + padding n) / 8 })
     (refused_reading PaddingSet)
 
 -- after the bit of presence: one for active and nine for the index

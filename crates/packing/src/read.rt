@@ -3,7 +3,7 @@ ghost use Rattle.std.specs.Prelude.{◌≡◌, List, ◌∷◌, ℕ, ◌≤◌, 
 ghost use Rattle.packing.specs.Readings.{reading, refused_reading};
 
 use lag::pitch::{PitchRecord, Present};
-use rates::answer::Answer;
+use rates::answer::{Answer, Refusal};
 
 // How a reading went, the record, and how many bytes it used.
 #[derive(Clone, Copy)]
@@ -14,13 +14,12 @@ pub struct Reading {
 }
 
 // A refused reading gives absent, and used nothing.
-fn refused(answer: Answer) -> Reading
-    ensures { result ≡ refused_reading answer }
+fn refused(refusal: Refusal) -> Reading
+    ensures { result ≡ refused_reading refusal }
 {
-    let pitch = PitchRecord::Absent;
     Reading {
-        answer,
-        pitch,
+        answer: Err(refusal),
+        pitch: PitchRecord::Absent,
         used: 0,
     }
 }
@@ -31,12 +30,11 @@ fn read_absent(first: u8) -> Reading
     ensures { (rest : List ℕ) → result ≡ reading (first ∷ rest) }
 {
     if first != 0 {
-        return refused(Answer::PaddingSet);
+        return refused(Refusal::PaddingSet);
     }
-    let pitch = PitchRecord::Absent;
     Reading {
-        answer: Answer::Done,
-        pitch,
+        answer: Ok(()),
+        pitch: PitchRecord::Absent,
         used: 1,
     }
 }
@@ -47,16 +45,15 @@ fn read_present(first: u8, second: u8) -> Reading
     ensures { (rest : List ℕ) → result ≡ reading (first ∷ second ∷ rest) }
 {
     if second % 32 != 0 {
-        return refused(Answer::PaddingSet);
+        return refused(Refusal::PaddingSet);
     }
     let upper = (first % 64) as u32;
     let lower = (second >> 5) as u32;
     let index = 8 * upper + lower;
     let active = (first >> 6) % 2 == 1;
-    let pitch = PitchRecord::Present(Present { index, active });
     Reading {
-        answer: Answer::Done,
-        pitch,
+        answer: Ok(()),
+        pitch: PitchRecord::Present(Present { index, active }),
         used: 2,
     }
 }
@@ -65,15 +62,14 @@ fn read_present(first: u8, second: u8) -> Reading
 pub fn read_pitch(bytes: &[u8]) -> Reading
     ensures { result ≡ reading bytes.now }
 {
-    if bytes.len() < 1 {
-        return refused(Answer::TooFewBytes);
-    }
-    let first = bytes[0];
+    let Some(&first) = bytes.first() else {
+        return refused(Refusal::TooFewBytes);
+    };
     if first < 128 {
         return read_absent(first);
     }
-    if bytes.len() < 2 {
-        return refused(Answer::TooFewBytes);
-    }
-    read_present(first, bytes[1])
+    let Some(&second) = bytes.get(1) else {
+        return refused(Refusal::TooFewBytes);
+    };
+    read_present(first, second)
 }

@@ -1,11 +1,10 @@
 // A pitch record written as bytes.
 ghost use Rattle.std.specs.Prelude.{◌≡◌, ◌≤◌, get_or};
-ghost use Rattle.lag.specs.declared.pitch.Sent.{Sent};
 ghost use Rattle.packing.specs.Form.{form};
 ghost use Rattle.packing.specs.Writings.{sent_writing, writing, refused_writing};
 
-use lag::pitch::{PitchRecord, Present, Sent, sent_of};
-use rates::answer::Answer;
+use lag::pitch::{PitchRecord, Present, sent_of};
+use rates::answer::{Answer, Refusal};
 
 // How a writing went, and how many bytes it wrote.
 #[derive(Clone, Copy)]
@@ -15,16 +14,19 @@ pub struct Writing {
 }
 
 // A refused writing wrote nothing.
-fn refused(answer: Answer) -> Writing
-    ensures { result ≡ refused_writing answer }
+fn refused(refusal: Refusal) -> Writing
+    ensures { result ≡ refused_writing refusal }
 {
-    Writing { answer, written: 0 }
+    Writing {
+        answer: Err(refusal),
+        written: 0,
+    }
 }
 
 // Presence, active, and the upper six bits of the index.
 fn first_byte(present: Present) -> u8
     requires { present.index ≤ 511 }
-    ensures { result ≡ get_or (form (Sent.Present present)) 0 0 }
+    ensures { result ≡ get_or (form (Some present)) 0 0 }
 {
     let active = present.active as u32;
     (128 + 64 * active + (present.index >> 3)) as u8
@@ -32,43 +34,41 @@ fn first_byte(present: Present) -> u8
 
 // The lower three bits of the index, and the padding.
 fn second_byte(present: Present) -> u8
-    ensures { result ≡ get_or (form (Sent.Present present)) 1 0 }
+    ensures { result ≡ get_or (form (Some present)) 1 0 }
 {
     (32 * (present.index % 8)) as u8
 }
 
 // A present record takes two bytes.
 fn write_present(bytes: &mut [u8], present: Present) -> Writing
-    ensures { (result, bytes.new) ≡ sent_writing (Sent.Present present) bytes.old }
+    ensures { (result, bytes.new) ≡ sent_writing (Some present) bytes.old }
 {
-    let index = present.index;
-    let room = bytes.len();
-    if index > 511 {
-        return refused(Answer::IndexTooLarge);
+    if present.index > 511 {
+        return refused(Refusal::IndexTooLarge);
     }
-    if room < 2 {
-        return refused(Answer::TooFewBytes);
+    if bytes.len() < 2 {
+        return refused(Refusal::TooFewBytes);
     }
     bytes[0] = first_byte(present);
     bytes[1] = second_byte(present);
     Writing {
-        answer: Answer::Done,
+        answer: Ok(()),
         written: 2,
     }
 }
 
 // An absent record takes one byte.
 fn write_absent(bytes: &mut [u8]) -> Writing
-    ensures { (result, bytes.new) ≡ sent_writing Sent.Absent bytes.old }
+    ensures { (result, bytes.new) ≡ sent_writing None bytes.old }
 {
-    if bytes.len() > 0 {
-        bytes[0] = 0;
-        return Writing {
-            answer: Answer::Done,
-            written: 1,
-        };
+    if bytes.is_empty() {
+        return refused(Refusal::TooFewBytes);
     }
-    refused(Answer::TooFewBytes)
+    bytes[0] = 0;
+    Writing {
+        answer: Ok(()),
+        written: 1,
+    }
 }
 
 // Writes a record at the beginning of the bytes, and leaves the others as they were.
@@ -76,7 +76,7 @@ pub fn write_pitch(bytes: &mut [u8], pitch: PitchRecord) -> Writing
     ensures { (result, bytes.new) ≡ writing pitch bytes.old }
 {
     match sent_of(pitch) {
-        Sent::Absent => write_absent(bytes),
-        Sent::Present(present) => write_present(bytes, present),
+        None => write_absent(bytes),
+        Some(present) => write_present(bytes, present),
     }
 }

@@ -1,21 +1,31 @@
 -- The answer numbers of docs/SCOPE.md.
-use Rattle.std.specs.Prelude.{ℕ}
-use Rattle.rates.specs.declared.answer.Answer.{Answer}
-use Rattle.rates.specs.declared.answer.Answer.TheVariants.{Done, UnknownRate, UnknownDuration, CoefficientCount, CoefficientNotFinite, SampleCount, TooManyBits, IndexTooLarge, SampleOutOfRange, UnfitState, MalformedLine, WrongFrameNumber, PaddingSet, EarsDiffer, TooFewBytes}
+use Rattle.std.specs.Prelude.{ℕ, Result, Ok, Err}
+use Rattle.rates.specs.declared.answer.Refusal.{Refusal}
+use Rattle.rates.specs.declared.answer.Refusal.TheVariants.{UnknownRate, UnknownDuration, CoefficientCount, CoefficientNotFinite, SampleCount, TooManyBits, IndexTooLarge, SampleOutOfRange, UnfitState, MalformedLine, WrongFrameNumber, PaddingSet, EarsDiffer, TooFewBytes}
+
+-- an answer: done, or refused
+abbrev pub Answer : Type 0
+Answer = Result Unit Refusal
+
+abbrev pub done : Answer
+done = Ok tt
+
+abbrev pub refusal_number : Refusal → ℕ
+refusal_number UnknownRate = 1
+refusal_number UnknownDuration = 2
+refusal_number CoefficientCount = 3
+refusal_number CoefficientNotFinite = 4
+refusal_number SampleCount = 5
+refusal_number TooManyBits = 6
+refusal_number IndexTooLarge = 7
+refusal_number SampleOutOfRange = 8
+refusal_number UnfitState = 9
+refusal_number MalformedLine = 10
+refusal_number WrongFrameNumber = 11
+refusal_number PaddingSet = 12
+refusal_number EarsDiffer = 13
+refusal_number TooFewBytes = 15
 
 abbrev pub number_of : Answer → ℕ
-number_of Done = 0
-number_of UnknownRate = 1
-number_of UnknownDuration = 2
-number_of CoefficientCount = 3
-number_of CoefficientNotFinite = 4
-number_of SampleCount = 5
-number_of TooManyBits = 6
-number_of IndexTooLarge = 7
-number_of SampleOutOfRange = 8
-number_of UnfitState = 9
-number_of MalformedLine = 10
-number_of WrongFrameNumber = 11
-number_of PaddingSet = 12
-number_of EarsDiffer = 13
-number_of TooFewBytes = 15
+number_of (Ok _) = 0
+number_of (Err refusal) = refusal_number refusal

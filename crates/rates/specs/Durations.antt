@@ -1,9 +1,8 @@
 -- The two frame durations of docs/SCOPE.md, in microseconds.
-use Rattle.std.specs.Prelude.{ℕ, cond, eqb}
+use Rattle.std.specs.Prelude.{ℕ, cond, eqb, Option, Some, None}
 use Rattle.rates.specs.declared.duration.FrameDuration.TheVariants.{TenMs, SevenPointFiveMs}
-use Rattle.rates.specs.declared.duration.FoundDuration.{FoundDuration}
-use Rattle.rates.specs.declared.duration.FoundDuration.TheVariants.{Duration, Unknown}
+use Rattle.rates.specs.declared.duration.FrameDuration.{FrameDuration}
 
 -- 10 or 7.5 ms
-abbrev pub duration_of : ℕ → FoundDuration
-duration_of us = cond (eqb us 10000) (Duration TenMs) (cond (eqb us 7500) (Duration SevenPointFiveMs) Unknown)
+abbrev pub duration_of : ℕ → Option FrameDuration
+duration_of us = cond (eqb us 10000) (Some TenMs) (cond (eqb us 7500) (Some SevenPointFiveMs) None)

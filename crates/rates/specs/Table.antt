@@ -1,8 +1,6 @@
 -- The six rates of docs/SCOPE.md, row by row, and the row of a rate.
-use Rattle.std.specs.Prelude.{ℕ, cond, List, [], ◌∷◌, eqb}
+use Rattle.std.specs.Prelude.{ℕ, cond, List, [], ◌∷◌, eqb, Option, Some, None}
 use Rattle.rates.specs.declared.table.Rate.{Rate}
-use Rattle.rates.specs.declared.table.FoundRate.{FoundRate}
-use Rattle.rates.specs.declared.table.FoundRate.TheVariants.{Row, Unknown}
 
 -- a row, in the order of the columns in docs/SCOPE.md: rate, fs_ind, R, frame at 10 and 7.5 ms, p, l_den, fade
 abbrev pub row : ℕ → ℕ → ℕ → ℕ → ℕ → ℕ → ℕ → ℕ → Rate
@@ -18,9 +16,9 @@ rates =
     row 48000 4 6 480 360 4 12 120 ∷ []
 
 -- the first row of that rate
-unfoldable pub find : ℕ → List Rate → FoundRate
-find hz [] = Unknown
-find hz (row ∷ rows) = cond (eqb row.hz hz) (Row row) (find hz rows)
+unfoldable pub find : ℕ → List Rate → Option Rate
+find hz [] = None
+find hz (row ∷ rows) = cond (eqb row.hz hz) (Some row) (find hz rows)
 
-abbrev pub row_of : ℕ → FoundRate
+abbrev pub row_of : ℕ → Option Rate
 row_of hz = find hz rates

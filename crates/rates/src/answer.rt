@@ -1,10 +1,9 @@
-// The answers of every call, one case for each number.
+// The answers of every call: done, or one refusal for each number.
 ghost use Rattle.std.specs.Prelude.{◌≡◌};
-ghost use Rattle.rates.specs.Answers.{number_of};
+ghost use Rattle.rates.specs.Answers.{number_of, refusal_number};
 
 #[derive(Clone, Copy)]
-pub enum Answer {
-    Done,
+pub enum Refusal {
     UnknownRate,
     UnknownDuration,
     CoefficientCount,
@@ -21,25 +20,38 @@ pub enum Answer {
     TooFewBytes,
 }
 
+pub type Answer = Result<(), Refusal>;
+
+impl Refusal {
+    // The number under which a refusal is listed.
+    fn number(self) -> u64
+        ensures { result ≡ refusal_number self }
+    {
+        match self {
+            Refusal::UnknownRate => 1,
+            Refusal::UnknownDuration => 2,
+            Refusal::CoefficientCount => 3,
+            Refusal::CoefficientNotFinite => 4,
+            Refusal::SampleCount => 5,
+            Refusal::TooManyBits => 6,
+            Refusal::IndexTooLarge => 7,
+            Refusal::SampleOutOfRange => 8,
+            Refusal::UnfitState => 9,
+            Refusal::MalformedLine => 10,
+            Refusal::WrongFrameNumber => 11,
+            Refusal::PaddingSet => 12,
+            Refusal::EarsDiffer => 13,
+            Refusal::TooFewBytes => 15,
+        }
+    }
+}
+
 // The number under which an answer is listed.
 pub fn number(answer: Answer) -> u64
     ensures { result ≡ number_of answer }
 {
     match answer {
-        Answer::Done => 0,
-        Answer::UnknownRate => 1,
-        Answer::UnknownDuration => 2,
-        Answer::CoefficientCount => 3,
-        Answer::CoefficientNotFinite => 4,
-        Answer::SampleCount => 5,
-        Answer::TooManyBits => 6,
-        Answer::IndexTooLarge => 7,
-        Answer::SampleOutOfRange => 8,
-        Answer::UnfitState => 9,
-        Answer::MalformedLine => 10,
-        Answer::WrongFrameNumber => 11,
-        Answer::PaddingSet => 12,
-        Answer::EarsDiffer => 13,
-        Answer::TooFewBytes => 15,
+        Ok(()) => 0,
+        Err(refusal) => refusal.number(),
     }
 }

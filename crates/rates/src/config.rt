@@ -2,9 +2,9 @@
 ghost use Rattle.std.specs.Prelude.{◌≡◌};
 ghost use Rattle.rates.specs.Configs.{config_of};
 
-use crate::answer::Answer;
-use crate::duration::{FoundDuration, FrameDuration, duration_of};
-use crate::table::{FoundRate, Rate, row_of};
+use crate::answer::Refusal;
+use crate::duration::{FrameDuration, duration_of};
+use crate::table::{Rate, row_of};
 
 #[derive(Clone, Copy)]
 pub struct Lc3Config {
@@ -14,34 +14,20 @@ pub struct Lc3Config {
     pub history: usize,
 }
 
-#[derive(Clone, Copy)]
-pub enum Configured {
-    Config(Lc3Config),
-    Refused(Answer),
-}
-
 // The configuration of a rate in Hz and a duration in microseconds, checked in this order.
-pub fn config(hz: u32, microseconds: u32) -> Configured
+pub fn config(hz: u32, microseconds: u32) -> Result<Lc3Config, Refusal>
     ensures { result ≡ config_of hz microseconds }
 {
-    let FoundRate::Row(fs) = row_of(hz) else {
-        return Configured::Refused(Answer::UnknownRate);
+    let fs = row_of(hz).ok_or(Refusal::UnknownRate)?;
+    let n_ms = duration_of(microseconds).ok_or(Refusal::UnknownDuration)?;
+    let (nf, history) = match n_ms {
+        FrameDuration::TenMs => (fs.nf_10, 2 * fs.nf_10),
+        FrameDuration::SevenPointFiveMs => (fs.nf_7p5, 3 * fs.nf_7p5),
     };
-    let FoundDuration::Duration(n_ms) = duration_of(microseconds) else {
-        return Configured::Refused(Answer::UnknownDuration);
-    };
-    match n_ms {
-        FrameDuration::TenMs => Configured::Config(Lc3Config {
-            fs,
-            n_ms,
-            nf: fs.nf_10,
-            history: 2 * fs.nf_10,
-        }),
-        FrameDuration::SevenPointFiveMs => Configured::Config(Lc3Config {
-            fs,
-            n_ms,
-            nf: fs.nf_7p5,
-            history: 3 * fs.nf_7p5,
-        }),
-    }
+    Ok(Lc3Config {
+        fs,
+        n_ms,
+        nf,
+        history,
+    })
 }

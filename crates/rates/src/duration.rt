@@ -8,21 +8,13 @@ pub enum FrameDuration {
     SevenPointFiveMs,
 }
 
-#[derive(Clone, Copy)]
-pub enum FoundDuration {
-    Duration(FrameDuration),
-    Unknown,
-}
-
 // The duration of so many microseconds.
-pub fn duration_of(microseconds: u32) -> FoundDuration
+pub fn duration_of(microseconds: u32) -> Option<FrameDuration>
     ensures { result ≡ duration_of microseconds }
 {
-    if microseconds == 10000 {
-        return FoundDuration::Duration(FrameDuration::TenMs);
+    match microseconds {
+        10000 => Some(FrameDuration::TenMs),
+        7500 => Some(FrameDuration::SevenPointFiveMs),
+        _ => None,
     }
-    if microseconds == 7500 {
-        return FoundDuration::Duration(FrameDuration::SevenPointFiveMs);
-    }
-    FoundDuration::Unknown
 }

@@ -79,21 +79,14 @@ pub const RATES: [Rate; 6] = [
     },
 ];
 
-#[derive(Clone, Copy)]
-pub enum FoundRate {
-    Row(Rate),
-    Unknown,
-}
-
 // The row of a rate in Hz.
-pub fn row_of(hz: u32) -> FoundRate
+pub fn row_of(hz: u32) -> Option<Rate>
     ensures { result ≡ row_of hz }
 {
-    for i in 0..6 {
-        let row = RATES[i];
+    for row in RATES {
         if row.hz == hz {
-            return FoundRate::Row(row);
+            return Some(row);
         }
     }
-    FoundRate::Unknown
+    None
 }

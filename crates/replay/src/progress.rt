@@ -5,11 +5,11 @@ use std::io::IsTerminal;
 use std::rt::Clock;
 use std::{fs, io};
 
-// The bytes of the input, 0 where nothing is to be shown; those that were read; when the line was last
+// The bytes of the input, where they are to be shown; those that were read; when the line was last
 // written, in seconds, or the run began; and whether it stands there.
 #[derive(Clone, Copy)]
 pub(crate) struct Progress {
-    size: u64,
+    size: Option<u64>,
     done: u64,
     at: u64,
     is_shown: bool,
@@ -19,72 +19,36 @@ const MEGABYTE: u64 = 1000000;
 
 // The time in seconds.
 fn seconds(rt: &HostRuntime) -> u64 {
-    match rt.monotonic() {
-        Ok(time) => time.as_secs(),
-        Err(_) => 0,
-    }
+    rt.monotonic().map_or(0, |time| time.as_secs())
 }
 
-// The bytes of a file, or 0 of anything else.
-fn length_of(metadata: io::Result<fs::Metadata>) -> u64 {
-    match metadata {
-        Ok(known) => { if known.is_file() { known.len() } else { 0 } }
-        Err(_) => 0,
-    }
+// The bytes of a file; of nothing else are they known.
+fn length_of(metadata: io::Result<fs::Metadata>) -> Option<u64> {
+    let known = metadata.ok()?;
+    known.is_file().then_some(known.len())
 }
 
 // Where standard input stands already, as the system tells of an open file: its first line is `pos:`, a tab
 // and the position.
-fn position_in(told: &str) -> u64 {
-    let Some(rest) = told.strip_prefix("pos:\t") else {
-        return 0;
-    };
-    let Some((digits, _)) = rest.split_once('\n') else {
-        return 0;
-    };
-    digits.parse::<u64>().unwrap_or(0)
+fn position_in(told: &str) -> Option<u64> {
+    let (digits, _) = told.strip_prefix("pos:\t")?.split_once('\n')?;
+    digits.parse::<u64>().ok()
 }
 
-fn position(rt: &HostRuntime) -> u64 {
-    match fs::read_to_string(rt, "/proc/self/fdinfo/0") {
-        Ok(told) => position_in(told.as_str()),
-        Err(_) => 0,
-    }
+fn position(rt: &HostRuntime) -> Option<u64> {
+    let told = fs::read_to_string(rt, "/proc/self/fdinfo/0").ok()?;
+    position_in(told.as_str())
 }
 
-// The bytes from here to the input's end, or 0 where it has none, as a pipe. A file that was named has just
+// The bytes from here to the input's end, where it has one, as a pipe has not. A file that was named has just
 // been opened, and is at its start.
-fn size_of(rt: &HostRuntime, source: &Source) -> u64 {
+fn size_of(rt: &HostRuntime, source: &Source) -> Option<u64> {
     match source {
         Source::Named(file) => length_of(file.metadata()),
         Source::Standard => {
-            let size = length_of(fs::metadata(rt, "/proc/self/fd/0"));
-            size.saturating_sub(position(rt))
+            let size = length_of(fs::metadata(rt, "/proc/self/fd/0"))?;
+            Some(size.saturating_sub(position(rt).unwrap_or(0)))
         }
-    }
-}
-
-// Before the first input.
-pub(crate) fn none() -> Progress {
-    Progress {
-        size: 0,
-        done: 0,
-        at: 0,
-        is_shown: false,
-    }
-}
-
-// Before the first byte.
-pub(crate) fn begin(rt: &HostRuntime, source: &Source) -> Progress {
-    let mut size = 0;
-    if rt.stderr().is_terminal() {
-        size = size_of(rt, source);
-    }
-    Progress {
-        size,
-        done: 0,
-        at: seconds(rt),
-        is_shown: false,
     }
 }
 
@@ -94,49 +58,69 @@ fn write_line(rt: &HostRuntime, done: u64, size: u64) {
     let _ = eprint!(rt; "\rreplay: {read} of {all} MB");
 }
 
-// After n bytes more. The time comes in whole seconds, so two lines whose times differ by two are more
-// than a second apart.
-pub(crate) fn show(rt: &HostRuntime, progress: Progress, n: usize) -> Progress {
-    let done = std::num::wrapping_add_u64(progress.done, n as u64);
-    let size = progress.size;
-    let mut at = progress.at;
-    let mut is_shown = progress.is_shown;
-    if size > 0 {
-        let now = seconds(rt);
-        if now > at && now - at >= 2 {
-            write_line(rt, done, size);
-            at = now;
-            is_shown = true;
+impl Progress {
+    // Before the first input.
+    pub(crate) fn none() -> Progress {
+        Progress {
+            size: None,
+            done: 0,
+            at: 0,
+            is_shown: false,
         }
     }
-    Progress {
-        size,
-        done,
-        at,
-        is_shown,
-    }
-}
 
-// Leaves an empty line where one was written.
-pub(crate) fn clear(rt: &HostRuntime, progress: Progress) -> Progress {
-    if progress.is_shown {
-        tell(
-            rt,
-            b"\r                                                  \r",
-        );
+    // Before the first byte of an input.
+    pub(crate) fn begin(rt: &HostRuntime, source: Option<&Source>) -> Progress {
+        let size = match source {
+            Some(source) if rt.stderr().is_terminal() => size_of(rt, source),
+            _ => None,
+        };
+        Progress {
+            size,
+            at: seconds(rt),
+            ..Progress::none()
+        }
     }
-    Progress {
-        size: progress.size,
-        done: progress.done,
-        at: progress.at,
-        is_shown: false,
-    }
-}
 
-// Before rows are written: on a terminal they would go on in the line.
-pub(crate) fn make_way(rt: &HostRuntime, progress: Progress) -> Progress {
-    if rt.stdout().is_terminal() {
-        return clear(rt, progress);
+    // After n bytes more. The time comes in whole seconds, so two lines whose times differ by two are more
+    // than a second apart.
+    pub(crate) fn show(self, rt: &HostRuntime, n: usize) -> Progress {
+        let done = self.done.wrapping_add(n as u64);
+        let Some(size) = self.size.filter(|&size| size > 0) else {
+            return Progress { done, ..self };
+        };
+        let now = seconds(rt);
+        if now.saturating_sub(self.at) < 2 {
+            return Progress { done, ..self };
+        }
+        write_line(rt, done, size);
+        Progress {
+            done,
+            at: now,
+            is_shown: true,
+            ..self
+        }
     }
-    progress
+
+    // Leaves an empty line where one was written.
+    pub(crate) fn clear(self, rt: &HostRuntime) -> Progress {
+        if self.is_shown {
+            tell(
+                rt,
+                b"\r                                                  \r",
+            );
+        }
+        Progress {
+            is_shown: false,
+            ..self
+        }
+    }
+
+    // Before rows are written: on a terminal they would go on in the line.
+    pub(crate) fn make_way(self, rt: &HostRuntime) -> Progress {
+        if rt.stdout().is_terminal() {
+            return self.clear(rt);
+        }
+        self
+    }
 }

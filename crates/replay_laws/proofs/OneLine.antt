@@ -3,15 +3,16 @@ use Prim.Native.Nat.{ℕ}
 use mathlib.Core.Path.{◌≡◌, refl, sym, ap, ◌∙◌}
 use mathlib.Core.Bool.{Bool, true, false, cond}
 use mathlib.Core.List.{List, [], ◌∷◌, ◌++◌}
-use Rattle.rates.specs.declared.answer.Answer.TheVariants.{WrongFrameNumber}
+use Rattle.std.proofs.Common.{Result, Ok, Err}
+use Rattle.rates.specs.declared.answer.Refusal.TheVariants.{WrongFrameNumber}
 use Rattle.control.specs.declared.marks.Marks.{Marks}
 use Rattle.settling_laws.specs.Calls.{FitState}
 use Rattle.lines.specs.Listings.{after_lines, rows_from}
+use Rattle.lines.specs.declared.field.Malformed.{Malformed}
 use Rattle.entries.specs.Lines.{line_read}
-use Rattle.entries.specs.declared.line.Line.{Line}
-use Rattle.replaying.specs.Frames.{dashed_row, replayed_content}
+use Rattle.entries.specs.declared.line.Entry.{Entry}
+use Rattle.replaying.specs.Frames.{Row, replayed_content}
 use Rattle.replaying.specs.Steps.{follows, skipped, counted, stepped_entry, stepped_line}
-use Rattle.replaying.specs.declared.frame.Row.{Row}
 use Rattle.replay_rows.specs.Rows.{row_text}
 use Rattle.replay_listing.specs.declared.machine.Replay.{Replay}
 use Rattle.replay_listing.specs.ByMarks.{replayed_as, replayed_line}
@@ -21,15 +22,15 @@ use Rattle.replay_laws.proofs.OneCall.{SameCall, same_call}
 
 module _ (setting : Setting) (usable : Usable setting) where
   -- a line, by what it says
-  pub record SameLine (s : Between) (l : Line) : Type 0 where
+  pub record SameLine (s : Between) (l : Result Entry Malformed) : Type 0 where
     pub row : (stepped_line s.last s.decoder.registers.marks l).row ≡ row_of setting s l
     pub kept : (replayed_as s.line (stepped_line s.last s.decoder.registers.marks l)).replay ≡ marks_of (moved_by setting s l)
     pub stays_fit : FitState setting.config (moved_by setting s l).decoder
 
-  pub same_line : (s : Between) → FitState setting.config s.decoder → (l : Line) → SameLine s l
+  pub same_line : (s : Between) → FitState setting.config s.decoder → (l : Result Entry Malformed) → SameLine s l
   unfolding stepped_entry
-  same_line s fit Line.Malformed = record { row = refl; kept = refl; stays_fit = fit }
-  same_line s fit (Line.Entry e) = let b = follows s.last e.frame in record { row = row b; kept = kept b; stays_fit = stays_fit b }
+  same_line s fit (Err e) = record { row = refl; kept = refl; stays_fit = fit }
+  same_line s fit (Ok e) = let b = follows s.last e.frame in record { row = row b; kept = kept b; stays_fit = stays_fit b }
     where
       r : Marks
       r = s.decoder.registers.marks
@@ -39,7 +40,7 @@ module _ (setting : Setting) (usable : Usable setting) where
 
       row : (b : Bool) →
           (cond b (counted e.frame (replayed_content r e.content)) (skipped s.last r WrongFrameNumber)).row ≡
-          cond b (called_row setting s.decoder e.content) (dashed_row WrongFrameNumber)
+          cond b (called_row setting s.decoder e.content) (Err WrongFrameNumber)
       row true = sym called.row
       row false = refl
 

@@ -8,13 +8,15 @@ use mathlib.Core.Path.{◌≡◌, sym, ap, ◌∙◌}
 use mathlib.Core.List.{List, [], ◌++◌}
 use lib.Ieee.{Float}
 use lib.ListN.{length}
+use Rattle.std.proofs.Common.{Result}
 use Rattle.control.specs.State.{cleared_marks}
 use Rattle.decoder.specs.State.{cleared}
 use Rattle.lines.specs.Listings.{Decided, after_lines, lines_from, rows_from, listing_of}
 use Rattle.lines.specs.Machine.{Call, begun, called_all, whole_text, serving}
 use Rattle.lines.proofs.WholeInput as whole
-use Rattle.entries.specs.declared.line.Line.{Line}
+use Rattle.lines.specs.declared.field.Malformed.{Malformed}
 use Rattle.entries.proofs.LongLines.{first_bytes}
+use Rattle.entries.specs.declared.line.Entry.{Entry}
 use Rattle.replaying.specs.Steps.{stepped_line}
 use Rattle.replay_rows.specs.Rows.{row_text}
 use Rattle.replay_listing.specs.ByMarks.{header, replayed_as, replayed_line, marks_rules_at, marks_rules}
@@ -30,8 +32,8 @@ pub decided : (rate duration : ℕ) → Decided (marks_rules_at rate duration)
 unfolding replayed_line
 decided rate duration =
     record {
-      moves = λ s line. ap (λ (l : Line). (replayed_as s.line (stepped_line s.last s.marks l)).replay) (first_bytes line);
-      answers = λ s line. ap (λ (l : Line). row_text s.line (stepped_line s.last s.marks l).row) (first_bytes line);
+      moves = λ s line. ap (λ (l : Result Entry Malformed). (replayed_as s.line (stepped_line s.last s.marks l)).replay) (first_bytes line);
+      answers = λ s line. ap (λ (l : Result Entry Malformed). row_text s.line (stepped_line s.last s.marks l).row) (first_bytes line);
     }
 
 module _ (setting : Setting) (usable : Usable setting) where

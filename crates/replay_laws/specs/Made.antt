@@ -1,13 +1,13 @@
 -- What some lines leave, and the calls that they make of the decoder.
-use Rattle.std.specs.Prelude.{ℕ, cond, List, [], ◌∷◌}
+use Rattle.std.specs.Prelude.{ℕ, cond, List, [], ◌∷◌, Option, Result, Ok, Err}
 use Rattle.judging.specs.declared.plan.Plan.{Plan}
 use Rattle.settling_laws.specs.Calls.{Call}
 use Rattle.lines.specs.Listings.{Rules}
+use Rattle.lines.specs.declared.field.Malformed.{Malformed}
 use Rattle.entries.specs.Lines.{line_read}
-use Rattle.entries.specs.declared.line.Line.{Line}
+use Rattle.entries.specs.declared.line.Entry.{Entry}
 use Rattle.replaying.specs.Steps.{follows}
 use Rattle.replaying.specs.declared.frame.Columns.{Columns}
-use Rattle.replaying.specs.declared.step.Last.{Last}
 use Rattle.replay_listing.specs.ByMarks.{marks_rules_at}
 use Rattle.replay_listing.specs.declared.machine.Replay.{Replay}
 use Rattle.replay_laws.specs.Whole.{Setting, Between, call_of, moved_by}
@@ -27,9 +27,9 @@ shown_plan setting c =
 
 module _ (setting : Setting) where
   -- a line that counts adds its call to those made before
-  abbrev pub made_by : Last → Line → List Call → List Call
-  made_by last Line.Malformed calls = calls
-  made_by last (Line.Entry e) calls = cond (follows last e.frame) (call_of setting e.content ∷ calls) calls
+  abbrev pub made_by : Option ℕ → Result Entry Malformed → List Call → List Call
+  made_by last (Err e) calls = calls
+  made_by last (Ok e) calls = cond (follows last e.frame) (call_of setting e.content ∷ calls) calls
 
   -- the calls of some lines, the latest first, after those that were made before
   unfoldable pub calls_of : Between → List (List ℕ) → List Call → List Call

@@ -1,9 +1,8 @@
 -- The replay without samples and coefficients, line by line. That it lists what the decoder does is proved in `replayed`.
-use Rattle.std.specs.Prelude.{ℕ, false, List, [], ◌∷◌}
+use Rattle.std.specs.Prelude.{ℕ, None, List, [], ◌∷◌}
 use Rattle.control.specs.State.{cleared_marks}
-use Rattle.lines.specs.Listings.{Rules, next_number}
+use Rattle.lines.specs.Listings.{Rules, RowRules, rules_of, next_number}
 use Rattle.replaying.specs.Steps.{stepped}
-use Rattle.replaying.specs.declared.step.Last.{Last}
 use Rattle.replaying.specs.declared.step.Stepped.{Stepped}
 use Rattle.replay_rows.specs.Rows.{row_text}
 use Rattle.replay_listing.specs.declared.machine.Replay.{Replay}
@@ -23,7 +22,7 @@ header =
 
 -- before the first line: no frame has counted, and the decoder is fresh
 abbrev pub first_at : ℕ → ℕ → Replay
-first_at rate duration = record { line = 1; last = Last.None; marks = cleared_marks rate duration }
+first_at rate duration = record { line = 1; last = None; marks = cleared_marks rate duration }
 
 abbrev pub replayed_as : ℕ → Stepped → Replayed
 replayed_as line s = record { replay = record { line = next_number line; last = s.last; marks = s.marks }; row = s.row }
@@ -32,20 +31,24 @@ replayed_as line s = record { replay = record { line = next_number line; last = 
 unfoldable pub replayed_line : Replay → List ℕ → Replayed
 replayed_line p line = replayed_as p.line (stepped p.last p.marks line)
 
--- Every line is listed, and no text follows the last row. A row has seven cells of at most 21 bytes and one, of the rounding, of at most 22.
-abbrev pub marks_rules_at : ℕ → ℕ → Rules
-marks_rules_at rate duration =
+-- A row has seven cells of at most 21 bytes and one, of the rounding, of at most 22.
+abbrev pub marks_rows_at : ℕ → ℕ → RowRules Replay
+marks_rows_at rate duration =
     record {
-      State = Replay;
       header = header;
       first = first_at rate duration;
       moved = λ p line. (replayed_line p line).replay;
       row = λ p line. row_text p.line (replayed_line p line).row;
-      stops = λ s. false;
-      closing = λ s. [];
       space = 169;
     }
 
+-- every line is listed, and no text follows the last row
+abbrev pub marks_rules_at : ℕ → ℕ → Rules
+marks_rules_at rate duration = rules_of (marks_rows_at rate duration)
+
 -- the listing is of 48000 Hz and 10 ms
+abbrev pub marks_rows : RowRules Replay
+marks_rows = marks_rows_at 48000 10000
+
 abbrev pub marks_rules : Rules
-marks_rules = marks_rules_at 48000 10000
+marks_rules = rules_of marks_rows

@@ -1,14 +1,12 @@
 -- A row of the replay as text.
-use Rattle.std.specs.Prelude.{ℕ, Bool, true, false, List, ◌++◌}
-use Rattle.rates.specs.Answers.{number_of}
 use Rattle.lag.specs.declared.gain.Gain.{Gain}
+use Rattle.std.specs.Prelude.{ℕ, ℤ, Bool, true, false, List, ◌++◌, Option, Some, None}
+use Rattle.rates.specs.Answers.{Answer, number_of}
 use Rattle.lag.specs.declared.rescale.Lag.{Lag}
 use Rattle.telling.specs.Told.{case_number}
-use Rattle.telling.specs.declared.rounding.Rounding.{Rounding}
 use Rattle.cells.specs.Texts.{cell, signed_cell, dash_cell}
+use Rattle.replaying.specs.Frames.{Row, shown_of, answer_of}
 use Rattle.replaying.specs.declared.frame.Columns.{Columns}
-use Rattle.replaying.specs.declared.frame.Shown.{Shown}
-use Rattle.replaying.specs.declared.frame.Row.{Row}
 
 -- settled is 0 or 1
 abbrev pub flag_number : Bool → ℕ
@@ -21,15 +19,15 @@ lag_text false lag = dash_cell 9 ++ dash_cell 9
 lag_text true lag = cell lag.whole 9 ++ cell lag.quarter 9
 
 -- the row; a dash for an inactive frame, and where the gain is off
-abbrev pub gain_text : Bool → Gain → List ℕ
+abbrev pub gain_text : Bool → Option Gain → List ℕ
 gain_text false gain = dash_cell 9
-gain_text true Gain.Off = dash_cell 9
-gain_text true (Gain.On gain row) = cell row 9
+gain_text true None = dash_cell 9
+gain_text true (Some gain) = cell gain.row 9
 
 -- how the lag was rounded; a dash where no lag is shown
-abbrev pub rounding_text : Rounding → List ℕ
-rounding_text Rounding.None = dash_cell 9
-rounding_text (Rounding.Difference d) = signed_cell d 9
+abbrev pub rounding_text : Option ℤ → List ℕ
+rounding_text None = dash_cell 9
+rounding_text (Some d) = signed_cell d 9
 
 -- case, whole, quarter, row, settled, rounding
 abbrev pub columns_text : Columns → List ℕ
@@ -40,10 +38,13 @@ columns_text c =
 abbrev pub dashes_text : List ℕ
 dashes_text = dash_cell 9 ++ dash_cell 9 ++ dash_cell 9 ++ dash_cell 9 ++ dash_cell 9 ++ dash_cell 9
 
-abbrev pub shown_text : Shown → List ℕ
-shown_text Shown.Dashes = dashes_text
-shown_text (Shown.Columns c) = columns_text c
+abbrev pub shown_text : Option Columns → List ℕ
+shown_text None = dashes_text
+shown_text (Some c) = columns_text c
 
 -- line, case, whole, quarter, row, settled, rounding, answer
+abbrev pub text_of : ℕ → Answer → Option Columns → List ℕ
+text_of line answer shown = cell line 9 ++ shown_text shown ++ cell (number_of answer) 10
+
 abbrev pub row_text : ℕ → Row → List ℕ
-row_text line row = cell line 9 ++ shown_text row.shown ++ cell (number_of row.answer) 10
+row_text line row = text_of line (answer_of row) (shown_of row)

@@ -1,15 +1,13 @@
 // A frame and a loss mark, as far as their row goes.
 ghost use Rattle.std.specs.Prelude.{◌≡◌};
-ghost use Rattle.replaying.specs.Frames.{dashed_row, judged_marks, played_by, lost_marks, replayed_content};
+ghost use Rattle.replaying.specs.Frames.{judged_marks, played_by, lost_marks, replayed_content};
 
 use control::fitness::fit_config;
 use control::marks::Marks;
 use control::next::{advance, unsettle};
-use entries::line::Content;
-use judging::plan::{SideInfo, Verdict};
+use judging::plan::{Plan, SideInfo};
 use lag::pitch::PitchRecord;
-use rates::answer::Answer;
-use rates::config::Configured;
+use rates::answer::Refusal;
 use telling::told::{Told, judge_fitted, told_of};
 
 // What the row of an accepted frame shows: what its plan tells, and the settled report.
@@ -19,17 +17,8 @@ pub struct Columns {
     pub settled: bool,
 }
 
-#[derive(Clone, Copy)]
-pub enum Shown {
-    Dashes,
-    Columns(Columns),
-}
-
-#[derive(Clone, Copy)]
-pub struct Row {
-    pub answer: Answer,
-    pub shown: Shown,
-}
+// What answers a line: a refusal, the columns of a frame, or none for a lost one.
+pub type Row = Result<Option<Columns>, Refusal>;
 
 // The marks after a line's content, and the line's row.
 #[derive(Clone, Copy)]
@@ -38,76 +27,61 @@ pub struct Played {
     pub row: Row,
 }
 
-// A row of dashes.
-pub(crate) fn dashed_row(answer: Answer) -> Row
-    ensures { result ≡ dashed_row answer }
-{
-    Row {
-        answer,
-        shown: Shown::Dashes,
-    }
-}
-
 // The verdict of the decoder on a frame whose set and samples are good.
-fn judge_marks(marks: Marks, side: SideInfo) -> Verdict
+#[tactic(auto, unfolding(crate::specs::Frames::judged_marks))]
+fn judge_marks(marks: Marks, side: SideInfo) -> Result<Plan, Refusal>
     ensures { result ≡ judged_marks marks side }
 {
     judge_fitted(marks, fit_config(marks), side)
 }
 
 // What a verdict on a frame with this pitch leads to.
-fn play(marks: Marks, pitch: PitchRecord, verdict: Verdict) -> Played
+fn play(marks: Marks, pitch: PitchRecord, verdict: Result<Plan, Refusal>) -> Played
     ensures { result ≡ played_by marks pitch verdict }
 {
     match verdict {
-        Verdict::Refused(answer) => Played {
+        Err(refusal) => Played {
             marks,
-            row: dashed_row(answer),
+            row: Err(refusal),
         },
-        Verdict::Accepted(plan) => {
-            let lag = plan.lag;
-            let next = advance(marks, plan.active, lag);
+        Ok(plan) => {
+            let next = advance(marks, plan.active, plan.lag);
             let told = told_of(plan, pitch);
             let settled = next.settled;
             Played {
                 marks: next,
-                row: Row {
-                    answer: Answer::Done,
-                    shown: Shown::Columns(Columns { told, settled }),
-                },
+                row: Ok(Some(Columns { told, settled })),
             }
         }
     }
 }
 
 // A loss mark.
+#[tactic(auto, unfolding(crate::specs::Frames::lost_marks))]
 fn lose(marks: Marks) -> Played
     ensures { result ≡ lost_marks marks }
 {
     match fit_config(marks) {
-        Configured::Config(_) => {
+        Err(refusal) => Played {
+            marks,
+            row: Err(refusal),
+        },
+        Ok(_) => {
             let lost = unsettle(marks);
             Played {
                 marks: lost,
-                row: dashed_row(Answer::Done),
+                row: Ok(None),
             }
         }
-        Configured::Refused(answer) => Played {
-            marks,
-            row: dashed_row(answer),
-        },
     }
 }
 
 // What came of a frame, as the decoder takes it.
-pub fn replay_content(marks: Marks, content: Content) -> Played
+pub fn replay_content(marks: Marks, content: Option<SideInfo>) -> Played
     ensures { result ≡ replayed_content marks content }
 {
     match content {
-        Content::Lost => lose(marks),
-        Content::Frame(side) => {
-            let pitch = side.pitch;
-            play(marks, pitch, judge_marks(marks, side))
-        }
+        None => lose(marks),
+        Some(side) => play(marks, side.pitch, judge_marks(marks, side)),
     }
 }

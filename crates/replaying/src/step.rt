@@ -2,71 +2,59 @@
 ghost use Rattle.std.specs.Prelude.{◌≡◌};
 ghost use Rattle.replaying.specs.Steps.{follows, skipped, stepped_entry, stepped};
 
-use crate::frame::{Row, dashed_row, replay_content};
+use crate::frame::{Row, replay_content};
 use control::marks::Marks;
-use entries::line::{Entry, Line, read_line};
-use rates::answer::Answer;
+use entries::line::{Entry, read_line};
+use rates::answer::Refusal;
 
-// The number of the last frame that counted, if there was one.
-#[derive(Clone, Copy)]
-pub enum Last {
-    None,
-    Frame(u32),
-}
-
-// What is known after a line, and the line's row.
+// What is known after a line, and the line's row: `last` is the number of the last frame that counted, if there was one.
 #[derive(Clone, Copy)]
 pub struct Stepped {
-    pub last: Last,
+    pub last: Option<u32>,
     pub marks: Marks,
     pub row: Row,
 }
 
 // Whether a frame's number is one above the last. The first may be any.
-fn follows(last: Last, frame: u32) -> bool
+fn follows(last: Option<u32>, frame: u32) -> bool
     ensures { result ≡ follows last frame }
 {
-    match last {
-        Last::None => true,
-        Last::Frame(before) => frame as u64 == before as u64 + 1,
-    }
+    last.is_none_or(|before| frame as u64 == before as u64 + 1)
 }
 
 // A line that does not count.
-fn skip(last: Last, marks: Marks, answer: Answer) -> Stepped
-    ensures { result ≡ skipped last marks answer }
+fn skip(last: Option<u32>, marks: Marks, refusal: Refusal) -> Stepped
+    ensures { result ≡ skipped last marks refusal }
 {
     Stepped {
         last,
         marks,
-        row: dashed_row(answer),
+        row: Err(refusal),
     }
 }
 
 // A line that is well formed counts if its number follows.
-fn step_entry(last: Last, marks: Marks, entry: Entry) -> Stepped
+#[tactic(auto, unfolding(crate::specs::Steps::stepped_entry))]
+fn step_entry(last: Option<u32>, marks: Marks, entry: Entry) -> Stepped
     ensures { result ≡ stepped_entry last marks entry }
 {
-    let content = entry.content;
     if !follows(last, entry.frame) {
-        return skip(last, marks, Answer::WrongFrameNumber);
+        return skip(last, marks, Refusal::WrongFrameNumber);
     }
-    let played = replay_content(marks, content);
-    let next = played.marks;
-    let row = played.row;
+    let played = replay_content(marks, entry.content);
     Stepped {
-        last: Last::Frame(entry.frame),
-        marks: next,
-        row,
+        last: Some(entry.frame),
+        marks: played.marks,
+        row: played.row,
     }
 }
 
 // A line, given without its newline.
-pub fn step(last: Last, marks: Marks, line: &[u8]) -> Stepped
+pub fn step(last: Option<u32>, marks: Marks, line: &[u8]) -> Stepped
     ensures { result ≡ stepped last marks line.now }
 {
     match read_line(line) {
-        Line::Malformed => skip(last, marks, Answer::MalformedLine),
-        Line::Entry(entry) => step_entry(last, marks, entry),
+        Err(_) => skip(last, marks, Refusal::MalformedLine),
+        Ok(entry) => step_entry(last, marks, entry),
     }
 }

@@ -11,8 +11,8 @@ use lib.Dec.{ltb}
 use lib.Ieee.{Float}
 use lib.ListN.{length}
 use Rattle.floats.specs.Single.{◌⊕◌, ◌⊗◌, at}
-use Rattle.lanes.specs.Lanes.{row_added, Lane, l0, l1, l2, l3, l4, l5, l6, l7, place, lane, listed}
-use Rattle.lanes.proofs.EachLane.{lane_all, lane_row, placed_eight, each_place, lane_at}
+use Rattle.lanes.specs.Lanes.{row_added, Lane, place, lane, listed}
+use Rattle.lanes.proofs.EachLane.{place_few, lane_all, lane_row, placed_eight, each_place, lane_at}
 use Rattle.slices.specs.Written.{written}
 use Rattle.resampling.specs.Resample.{used, entry, taps}
 use Rattle.resampling.specs.Rows.{Spread, tap_lanes, Phases}
@@ -20,16 +20,6 @@ use Rattle.slices.proofs.Written.{length_written, at_written_in, at_written_belo
 use Rattle.lanes.proofs.Times.{times_comm}
 use Rattle.slices.specs.Slices.{placed}
 use Rattle.lanes.specs.declared.Lanes.{Lanes}
-
-below_8 : (l : Lane) → place l < 8
-below_8 l0 = omega arith
-below_8 l1 = omega arith
-below_8 l2 = omega arith
-below_8 l3 = omega arith
-below_8 l4 = omega arith
-below_8 l5 = omega arith
-below_8 l6 = omega arith
-below_8 l7 = omega arith
 
 -- a row more
 pub row_more : (f : ℕ → ℕ → Float) (rows more : List Float) (s : ℕ) → 16 * s + 16 ≤ length rows →
@@ -102,7 +92,7 @@ module _ (x filter rows : List Float) (p : ℕ) (low : 4 ≤ p) (divides : p * (
       w = (le-div_iff_mul-le {k = p} (omega arith)).1 (omega (arith, div-mul-le_self (15 * (n % 8)) p))
 
       half : (b : ℕ) → b ≤ 8 → (q : ℕ) → q < 8 → at (listed (tap_lanes rows filter p (n % 8) b (240 / p + 1))) q ≡ taps x filter p (n % 8 + 8 * (b + q)) (240 / p + 1)
-      half b u = each_place (λ q. at (listed (tap_lanes rows filter p (n % 8) b (240 / p + 1))) q ≡ taps x filter p (n % 8 + 8 * (b + q)) (240 / p + 1)) (λ l. lane_at _ l ∙ tap_lane (n % 8) w b u l (below_8 l) (240 / p + 1) (omega arith))
+      half b u = each_place (λ q. at (listed (tap_lanes rows filter p (n % 8) b (240 / p + 1))) q ≡ taps x filter p (n % 8 + 8 * (b + q)) (240 / p + 1)) (λ l. lane_at _ l ∙ tap_lane (n % 8) w b u l (place_few l) (240 / p + 1) (omega arith))
 
       go : (t : Bool) → ltb (n / 8) 8 ≡ t → at sums (n % 8 * 16 + n / 8) ≡ taps x filter p n (240 / p + 1)
       go true f =

@@ -21,7 +21,8 @@ struct Sixteen {
     high: Lanes,
 }
 
-// Writes a row: sixteen samples of x that lie `step` apart.
+// Writes a row: sixteen samples of x that lie `step` apart. By index, like the loops below: what is read and what
+// is written lie at places of their own.
 fn put_row(x: &[f32; 540], from: usize, step: usize, rows: &mut [f32; 1392], to: usize)
     requires { (from + 15 * step < 540) × (step ≤ 30) × (to + 16 ≤ 1392) }
     ensures { rows.new ≡ written rows.old to (λ b. at x.now (from + step * b)) 16 }
@@ -33,7 +34,7 @@ fn put_row(x: &[f32; 540], from: usize, step: usize, rows: &mut [f32; 1392], to:
 
 // Row s starts with the sample that tap s of output 0 reads.
 fn spread(x: &[f32; 540], p: usize, rows: &mut [f32; 1392])
-    requires { (4 ≤ p) × (p ≤ 24) × (length rows.old ≡ 1392) }
+    requires { (4 ≤ p) × (p ≤ 24) }
     ensures { Spread x.now p rows.new }
 {
     let first = 60 - 240 / p;
@@ -55,13 +56,11 @@ fn sum_taps(rows: &[f32], p: usize, filter: &[f32], n: usize) -> Sixteen
     let mut high = lanes::starting_at(0.0);
     for j in 0..240 / p + 1 {
         let h = p * j;
-        if m < h {
-            if h < 240 + m {
-                let row = 16 * (first + j);
-                let entry = filter[h - m - 1];
-                low = lanes::add_row(low, entry, rows, row);
-                high = lanes::add_row(high, entry, rows, row + 8);
-            }
+        if m < h && h < 240 + m {
+            let row = 16 * (first + j);
+            let entry = filter[h - m - 1];
+            low = lanes::add_row(low, entry, rows, row);
+            high = lanes::add_row(high, entry, rows, row + 8);
         }
     }
     Sixteen { low, high }
@@ -76,8 +75,8 @@ fn sums_of(rows: &[f32], p: usize, filter: &[f32]) -> [f32; 128]
     let mut sums = [0.0; 128];
     for n in 0..8usize {
         let s = sum_taps(rows, p, filter, n);
-        lanes::store(&mut sums[..], 16 * n, s.low);
-        lanes::store(&mut sums[..], 16 * n + 8, s.high);
+        lanes::store(&mut sums, 16 * n, s.low);
+        lanes::store(&mut sums, 16 * n + 8, s.high);
     }
     sums
 }
@@ -99,7 +98,7 @@ fn write_outputs(x: &[f32; 540], p: usize, filter: &[f32], out: &mut [f32; 404],
 {
     let mut rows = [0.0; 1392];
     spread(x, p, &mut rows);
-    let sums = sums_of(&rows[..], p, filter);
+    let sums = sums_of(&rows, p, filter);
     let scale = scale_of(p);
     for n in 0..len12p8 {
         out[276 + n] = sums[n % 8 * 16 + n / 8] * scale;
@@ -111,16 +110,7 @@ fn write_outputs(x: &[f32; 540], p: usize, filter: &[f32], out: &mut [f32; 404],
 fn is_usable(filter: &[f32], p: usize) -> bool
     ensures { result ≡ usable filter.now p }
 {
-    if filter.len() != 239 {
-        return false;
-    }
-    if p < 4 {
-        return false;
-    }
-    if p > 24 {
-        return false;
-    }
-    p * (120 / p) == 120
+    filter.len() == 239 && 4 <= p && p <= 24 && p * (120 / p) == 120
 }
 
 // Writes the frame's samples at 12.8 kHz after the 276 of history in out, and answers whether the set and

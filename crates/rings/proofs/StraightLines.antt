@@ -3,7 +3,6 @@ use Prim.Native.Nat.{ℕ, ◌+◌, ◌-◌, ◌≤◌}
 use mathlib.Core.Path.{◌≡◌, ◌∙◌}
 use mathlib.Core.List.{List, ◌++◌}
 use native.Mathlib.Omega.{arith}
-use borrow.Author.Rules.{rules}
 use lib.ListN.{length, take, drop, length-append, length-take, length-drop}
 use lib.Seq.{take_at, drop_at, take_all, length-take-le}
 use lib.Ieee.{Float}
@@ -13,7 +12,6 @@ use Rattle.slices.proofs.Stored.{placed_stored}
 use Rattle.rings.specs.Ring.{straight}
 use Rattle.filter.specs.Transition.{outputs}
 use Rattle.filter.specs.Blocks.{padded}
-use Rattle.filter.specs.Required.{Lines}
 use Rattle.rings.specs.Required.{Filterable}
 use Rattle.rings.specs.Samples.{filtered, block_at, filtered_block}
 use Rattle.rings.specs.OnLines.{input_line, filtered_on, FilterableOn}
@@ -40,14 +38,6 @@ module _ {t : Transition} {old new : Filter} {c : Lc3Config} {start : ℕ} {xs y
   -- the line of all inputs reaches to the end of the frame
   line_x : length (straight xs c.history start ++ block_at c start xs) ≡ c.history + c.nf
   line_x = length-append (straight xs c.history start) (block_at c start xs) ∙ rw (past_x, frame_long)
-
-  -- of the ring of inputs filtering asks no more than of that of the outputs
-  of_outputs : Filterable t old new c start ys ys
-  of_outputs = search rules
-
-  -- the line of inputs is one to filter on
-  pub filterable_on : (x : List Float) → x ≡ input_line c start xs → FilterableOn t old new c start x ys
-  filterable_on x e = record { ring = of_outputs; long = rw e (simp length-drop (omega (arith, line_x))) }
 
   -- and gives what filtering between the rings does
   pub on_line : (x : List Float) → x ≡ input_line c start xs → filtered_on t old new c start x ys ≡ filtered_block t old new c start xs ys
@@ -96,25 +86,6 @@ stored_back ring out history start nf e h =
     rw (take_all (length out - history) (drop history out) (simp length-drop (omega arith))) (placed_stored ring (drop history out) start (omega arith))
 
 module _ {t : Transition} {old new : Filter} {c : Lc3Config} {start : ℕ} {x ys : List Float} (f : FilterableOn t old new c start x ys) where
-  after_16 : take (length x - 16) (drop 16 x) ≡ drop 16 x
-  after_16 = take_all (length x - 16) (drop 16 x) (simp length-drop (omega arith))
-
-  line_y : length (straight ys c.history start ++ take (length x - 16) (drop 16 x)) ≡ c.history + c.nf
-  line_y =
-      length-append (straight ys c.history start) (take (length x - 16) (drop 16 x))
-      ∙ rw (past_y f.ring, after_16) (simp length-drop (omega arith))
-
-  -- the line of inputs, and that of past outputs with its frame
-  pub lines : Lines c.fs.fade c.history x (straight ys c.history start ++ take (length x - 16) (drop 16 x))
-  lines = record {
-    past = omega (arith, f.ring);
-    fade_least = f.ring.fade_least;
-    fade_most = f.ring.fade_most;
-    frame = omega (arith, f.ring);
-    same = omega (arith, line_y);
-    inputs = drop_at (straight ys c.history start) (take (length x - 16) (drop 16 x)) c.history (past_y f.ring) ∙ after_16;
-  }
-
   -- the outputs of the frame are what lies after the past
   pub put_back : (out : List Float) →
       out ≡ outputs t old new c.fs.fade (padded (c.history - 16) x) (take c.history (straight ys c.history start ++ take (length x - 16) (drop 16 x))) →

@@ -10,7 +10,7 @@ use lib.Ieee.Bits.{of_bits-to_bits}
 use lib.Ieee.Exact.{HasValue}
 use lib.Ieee.Positive.{positive, num, den, den_pos, own_value, value→cross, value_pos, positive_of_value}
 use Rattle.root.specs.SquareRoot.{units, root_square, root_bits, root_of}
-use Rattle.root.specs.declared.Root.TheVariants.{Root as found}
+use Rattle.std.proofs.Common.{Some}
 use Rattle.root.proofs.Nearest.{four_square, nearest_unique, nearest_between, past_below, not_past}
 use Rattle.root.proofs.Search.{root_bits_nearest}
 use Rattle.root.proofs.Midpoint.{square_of_sum}
@@ -27,7 +27,7 @@ in_units a b u p q n d Q D x v h =
     (sym left ∙ ap (λ (z : ℕ). z * (u * (d * d))) (sym x) ∙ turn ∙ ap (λ (z : ℕ). z * (u * u)) h ∙ pair ∙ ap (λ (z : ℕ). z * z * q) v ∙ right)
 
 -- Where x is exactly the square of a float v above zero, its root is v.
-pub root_of_square : (x v : Float) → T (fits binary32 x) → T (fits binary32 v) → T (positive v) → HasValue x false (num v * num v) (den v * den v) → root_of x ≡ found v
+pub root_of_square : (x v : Float) → T (fits binary32 x) → T (fits binary32 v) → T (positive v) → HasValue x false (num v * num v) (den v * den v) → root_of x ≡ Some v
 unfolding root_square
 root_of_square x v fx fv pv h =
     let n_pos : 0 < num v = value_pos v (num v) (den v) pv (den_pos v) (own_value v pv) in
@@ -41,4 +41,4 @@ root_of_square x v fx fv pv h =
     (value→cross x (units a) (2 ^ 149) (positive_value x fx px)) (value→cross v (units b) (2 ^ 149) (positive_value v fv pv)) (value→cross x (num v * num v) (den v * den v) h) in
     let four : root_square a ≡ four_square b = sym (mul_assoc (units a) (2 ^ 149) 4) ∙ ap (λ (z : ℕ). z * 4) e ∙ omega (arith, square_of_sum (units b) (units b)) in
     let near = nearest_between (root_square a) b rb.0 rb.1 (past_below (root_square a) b rb.0 (le_of_eq (sym four))) (not_past (root_square a) b (le_of_eq four)) in
-    positive_root x px ∙ ap (λ (z : ℕ). found (of_bits binary32 z)) (nearest_unique (root_square a) (root_bits a) b (root_bits_nearest a ra.0 ra.1) near) ∙ ap found (of_bits-to_bits binary32 v fv)
+    positive_root x px ∙ ap (λ (z : ℕ). Some (of_bits binary32 z)) (nearest_unique (root_square a) (root_bits a) b (root_bits_nearest a ra.0 ra.1) near) ∙ ap Some (of_bits-to_bits binary32 v fv)

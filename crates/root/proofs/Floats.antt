@@ -15,7 +15,7 @@ use lib.Ieee.Exact.{HasValue, odd_sign}
 use lib.Ieee.Positive.{positive}
 use borrow.Author.Tests.{lt-leb, ne_eqb}
 use Rattle.root.specs.SquareRoot.{field_units, units, root_bits, root_of}
-use Rattle.root.specs.declared.Root.TheVariants.{Root as found}
+use Rattle.std.proofs.Common.{Some}
 use Rattle.root.proofs.Order.{lt_or_le}
 
 -- ---- what a pattern stands for
@@ -77,7 +77,7 @@ finite_value x f h = subst (λ (y : Float). HasValue y false (units (to_bits bin
 pub positive_value : (x : Float) → T (fits binary32 x) → T (positive x) → HasValue x false (units (to_bits binary32 x)) (2 ^ 149)
 positive_value x f p = finite_value x f (finite_below x f p)
 
-pub positive_root : (x : Float) → T (positive x) → root_of x ≡ found (of_bits binary32 (root_bits (to_bits binary32 x)))
+pub positive_root : (x : Float) → T (positive x) → root_of x ≡ Some (of_bits binary32 (root_bits (to_bits binary32 x)))
 unfolding root_of
 positive_root nan p = absurd p
 positive_root (inf s) p = absurd p

@@ -14,20 +14,20 @@ use lib.Ieee.Order.{le_of_values}
 use lib.Ieee.Positive.{positive, values_of_le, positive_of_value}
 use borrow.Author.Tests.{lt-ltb, le-ltb, ne_eqb}
 use Rattle.root.specs.SquareRoot.{units, root_square, root_of}
-use Rattle.root.specs.declared.Root.TheVariants.{Root as found}
+use Rattle.std.proofs.Common.{Some}
 use Rattle.root.proofs.Units.{units_le, units_lt}
 use Rattle.root.proofs.Nearest.{nearest_mono}
 use Rattle.root.proofs.Floats.{finite_value, positive_value}
 use Rattle.root.proofs.Roots.{positive_nearest, Rooted, a_zero, above, infinite, rooted}
 
 -- the root of a float that is finite and above zero is so too, and its value in units
-root_value : (x v : Float) → T (fits binary32 x) → T (positive x) → root_of x ≡ found v → T (positive v) × HasValue v false (units (to_bits binary32 v)) (2 ^ 149)
+root_value : (x v : Float) → T (fits binary32 x) → T (positive x) → root_of x ≡ Some v → T (positive v) × HasValue v false (units (to_bits binary32 v)) (2 ^ 149)
 root_value x v f p h =
     let n = positive_nearest x v f p h in
     let value = finite_value v n.0 n.1.finite in
     (positive_of_value v (units (to_bits binary32 v)) (2 ^ 149) value (lt_of_le_of_lt zero-le-all (units_lt n.1.positive)), value)
 
-positive_monotone : (x y v w : Float) → T (fits binary32 x) → T (fits binary32 y) → T (positive x) → T (positive y) → T (le x y) → root_of x ≡ found v → root_of y ≡ found w → T (le v w)
+positive_monotone : (x y v w : Float) → T (fits binary32 x) → T (fits binary32 y) → T (positive x) → T (positive y) → T (le x y) → root_of x ≡ Some v → root_of y ≡ Some w → T (le v w)
 unfolding root_square
 positive_monotone x y v w fx fy px py l h k =
     let p = positive_nearest x v fx px h in
@@ -77,7 +77,7 @@ not_past_infinity nan p h = p
 not_past_infinity (inf t) p h = p
 not_past_infinity (fin t n d) p h = h
 
-ordered : {x y v w : Float} → Rooted x v → Rooted y w → T (fits binary32 x) → T (fits binary32 y) → T (le x y) → root_of x ≡ found v → root_of y ≡ found w → T (le v w)
+ordered : {x y v w : Float} → Rooted x v → Rooted y w → T (fits binary32 x) → T (fits binary32 y) → T (le x y) → root_of x ≡ Some v → root_of y ≡ Some w → T (le v w)
 ordered (a_zero s e) (a_zero t d) fx fy l h k = l
 ordered {y = y} {w = w} (a_zero s e) (above p) fx fy l h k = zero-le s e w (root_value y w fy p k).0
 ordered (a_zero s e) infinite fx fy l h k = l
@@ -89,5 +89,5 @@ ordered {x} {y} infinite (above q) fx fy l h k = absurd (not_past_infinity y q l
 ordered infinite infinite fx fy l h k = l
 
 -- The root of a larger float is no smaller.
-pub root_monotone : (x y v w : Float) → T (fits binary32 x) → T (fits binary32 y) → T (le x y) → root_of x ≡ found v → root_of y ≡ found w → T (le v w)
+pub root_monotone : (x y v w : Float) → T (fits binary32 x) → T (fits binary32 y) → T (le x y) → root_of x ≡ Some v → root_of y ≡ Some w → T (le v w)
 root_monotone x y v w fx fy l h k = ordered (rooted x v h) (rooted y w k) fx fy l h k

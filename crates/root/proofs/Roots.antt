@@ -10,24 +10,24 @@ use lib.Ieee.{Float, nan, inf, fin, binary32, fits, is_nan, to_bits, of_bits}
 use lib.Ieee.Bits.{of_bits-to_bits, of_bits-fits, nan_bits_is}
 use lib.Ieee.Positive.{positive}
 use Rattle.root.specs.SquareRoot.{units, mid_square, root_square, Nearest, IsRoot, root_bits, root_of}
-use Rattle.root.specs.declared.Root.TheVariants.{Root as found, NoRoot}
+use Rattle.std.proofs.Common.{Some, None}
 use Rattle.root.proofs.Order.{square_le}
 use Rattle.root.proofs.Units.{units_le}
 use Rattle.root.proofs.Nearest.{nearest_unique}
 use Rattle.root.proofs.Search.{root_bits_nearest}
 use Rattle.root.proofs.Floats.{pattern_no_nan, pattern_back, positive_pattern, positive_root}
 
-pub none_found : {v : Float} → NoRoot ≡ found v → ⊥
+pub none_found : {v : Float} → None ≡ Some v → ⊥
 none_found {v} h = let z : ◌≡◌ {A = ℕ} 0 1 = cc in omega arith
 
-pub same_found : {v w : Float} → found v ≡ found w → v ≡ w
+pub same_found : {v w : Float} → Some v ≡ Some w → v ≡ w
 same_found h = cc
 
 pub above_zero : (m : ℕ) (e : ℤ) → T (positive (fin false (suc m) e))
 above_zero m e = lt→ltb 0 (suc m) (zero-lt-suc m)
 
 -- the root of a float that is finite and above zero, by the patterns
-pub positive_nearest : (x v : Float) → T (fits binary32 x) → T (positive x) → root_of x ≡ found v → T (fits binary32 v) × Nearest (root_square (to_bits binary32 x)) (to_bits binary32 v)
+pub positive_nearest : (x v : Float) → T (fits binary32 x) → T (positive x) → root_of x ≡ Some v → T (fits binary32 v) × Nearest (root_square (to_bits binary32 x)) (to_bits binary32 v)
 positive_nearest x v f p h =
     let a = to_bits binary32 x in
     let r = positive_pattern x f p in
@@ -36,7 +36,7 @@ positive_nearest x v f p h =
     (subst (λ (y : Float). T (fits binary32 y)) e (of_bits-fits binary32 (root_bits a)), subst (Nearest (root_square a)) (sym (pattern_back (root_bits a) n.finite) ∙ ap (to_bits binary32) e) n)
 
 -- What `root_of` gives is a root.
-pub root_nearest : (x v : Float) → T (fits binary32 x) → root_of x ≡ found v → IsRoot x v
+pub root_nearest : (x v : Float) → T (fits binary32 x) → root_of x ≡ Some v → IsRoot x v
 unfolding IsRoot root_of
 root_nearest nan v f h = none_found h
 root_nearest (inf true) v f h = none_found h
@@ -59,20 +59,20 @@ root_unique (fin false (suc m) e) v w p q =
     sym (of_bits-to_bits binary32 v p.0) ∙ ap (of_bits binary32) (nearest_unique _ (to_bits binary32 v) (to_bits binary32 w) p.1 q.1) ∙ of_bits-to_bits binary32 w q.0
 
 -- Where a float is the root of x, `root_of` gives it.
-pub root_exists : (x v : Float) → T (fits binary32 x) → IsRoot x v → root_of x ≡ found v
+pub root_exists : (x v : Float) → T (fits binary32 x) → IsRoot x v → root_of x ≡ Some v
 unfolding IsRoot root_of
 root_exists nan v f p = absurd p
 root_exists (inf true) v f p = absurd p
-root_exists (inf false) v f p = ap found (sym p)
-root_exists (fin true zero e) v f p = ap found (sym p)
-root_exists (fin false zero e) v f p = ap found (sym p)
+root_exists (inf false) v f p = ap Some (sym p)
+root_exists (fin true zero e) v f p = ap Some (sym p)
+root_exists (fin false zero e) v f p = ap Some (sym p)
 root_exists (fin true (suc m) e) v f p = absurd p
 root_exists (fin false (suc m) e) v f p =
     let x = fin false (suc m) e in
-    ap found (root_unique x (of_bits binary32 (root_bits (to_bits binary32 x))) v (root_nearest x _ f refl) p)
+    ap Some (root_unique x (of_bits binary32 (root_bits (to_bits binary32 x))) v (root_nearest x _ f refl) p)
 
 -- Where `root_of` gives none, no float is the root of x.
-pub root_none : (x v : Float) → T (fits binary32 x) → root_of x ≡ NoRoot → IsRoot x v → ⊥
+pub root_none : (x v : Float) → T (fits binary32 x) → root_of x ≡ None → IsRoot x v → ⊥
 root_none x v f h p = none_found (sym h ∙ root_exists x v f p)
 
 -- how a float can have a root
@@ -81,7 +81,7 @@ pub data Rooted : Float → Float → Type 0 where
   above : {x v : Float} → T (positive x) → Rooted x v
   infinite : Rooted (inf false) (inf false)
 
-pub rooted : (x v : Float) → root_of x ≡ found v → Rooted x v
+pub rooted : (x v : Float) → root_of x ≡ Some v → Rooted x v
 unfolding root_of
 rooted nan v h = absurd (none_found h)
 rooted (inf true) v h = absurd (none_found h)
@@ -92,11 +92,11 @@ rooted (fin true (suc m) e) v h = absurd (none_found h)
 rooted (fin false (suc m) e) v h = above (above_zero m e)
 
 -- A root is no NaN, so that it has a bit pattern.
-pub root_no_nan : (x v : Float) → T (fits binary32 x) → root_of x ≡ found v → T (not (is_nan v))
+pub root_no_nan : (x v : Float) → T (fits binary32 x) → root_of x ≡ Some v → T (not (is_nan v))
 unfolding is_nan
 root_no_nan x v f h = go (rooted x v h) f h
   where
-    go : {x v : Float} → Rooted x v → T (fits binary32 x) → root_of x ≡ found v → T (not (is_nan v))
+    go : {x v : Float} → Rooted x v → T (fits binary32 x) → root_of x ≡ Some v → T (not (is_nan v))
     go (a_zero s e) f h = tt
     go infinite f h = tt
     go {x} {v} (above p) f h =

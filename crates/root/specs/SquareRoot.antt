@@ -1,11 +1,9 @@
 -- What the square root of an `f32` is, by comparisons of whole numbers. Definitions only.
 -- A float that is not negative is named by its bit pattern b. The patterns stand in the order of the values, so b's neighbours are b - 1 and b + 1,
--- also at a power of two, whose neighbour below is nearer than the one above. A pattern is even or odd as its significand is. `found v` is `Root::Root(v)`.
-use Rattle.std.specs.Prelude.{◌≡◌, ◌⊎◌, Bool, true, false, cond, ℕ, zero, suc, ◌+◌, ◌-◌, ◌*◌, ◌/◌, ◌%◌, ◌^◌, ◌≤◌, ◌<◌, T, ltb, Float}
+-- also at a power of two, whose neighbour below is nearer than the one above. A pattern is even or odd as its significand is.
+use Rattle.std.specs.Prelude.{◌≡◌, ◌⊎◌, Bool, true, false, cond, ℕ, zero, suc, ◌+◌, ◌-◌, ◌*◌, ◌/◌, ◌%◌, ◌^◌, ◌≤◌, ◌<◌, T, ltb, Float, Option, Some, None}
 use Rattle.std.specs.Float.{nan, inf, fin, binary32}
 use Rattle.std.specs.Float.Ieee.{fits, to_bits, of_bits}
-use Rattle.root.specs.declared.Root.{Root}
-use Rattle.root.specs.declared.Root.TheVariants.{Root as found, NoRoot}
 
 -- ---- the definition
 
@@ -59,8 +57,8 @@ unfoldable pub root_bits : ℕ → ℕ
 root_bits a = last_passed (root_square a) 31 0
 
 -- the root of x, or that it has none
-unfoldable pub root_of : Float → Root
-root_of nan = NoRoot
-root_of (inf s) = cond s NoRoot (found (inf s))
-root_of (fin s zero e) = found (fin s zero e)
-root_of (fin s (suc m) e) = cond s NoRoot (found (of_bits binary32 (root_bits (to_bits binary32 (fin s (suc m) e)))))
+unfoldable pub root_of : Float → Option Float
+root_of nan = None
+root_of (inf s) = cond s None (Some (inf s))
+root_of (fin s zero e) = Some (fin s zero e)
+root_of (fin s (suc m) e) = cond s None (Some (of_bits binary32 (root_bits (to_bits binary32 (fin s (suc m) e)))))

@@ -7,13 +7,6 @@ ghost use Rattle.std.specs.Float.Ieee.Positive.{above};
 ghost use Rattle.root.specs.SquareRoot.{Nearest, root_of, root_square};
 ghost use Rattle.root.specs.Steps.{Normalised, WholeRoot};
 
-// The root of a float, or that it has none.
-#[derive(Clone, Copy)]
-pub enum Root {
-    Root(f32),
-    NoRoot,
-}
-
 // The float significand * 2^(exponent - 275), where the significand has all its 24 digits.
 #[derive(Clone, Copy)]
 struct Normal {
@@ -33,9 +26,7 @@ fn whole_root(n: u64) -> u64
     ensures { WholeRoot n result }
 {
     let mut q: u64 = 0;
-    let mut d: u64 = 24;
-    while 0 < d {
-        d -= 1;
+    for d in (0..24u64).rev() {
         let next = q + (1u64 << d);
         if next * next <= n {
             q = next;
@@ -84,7 +75,7 @@ fn nearest_root(a: u32) -> u32
 // The root of a float above zero, which may be +infinity.
 fn root_above_zero(x: f32) -> f32
     requires { T (above x) }
-    ensures { root_of x ≡ Root.Root result }
+    ensures { root_of x ≡ Some result }
 {
     let a = f32::to_bits(x);
     if a == INFINITY {
@@ -95,14 +86,14 @@ fn root_above_zero(x: f32) -> f32
 
 // The float nearest to the exact root of x, a tie to the even one. A zero gives itself, and so does
 // +infinity; a NaN and what is below zero have no root.
-pub fn sqrt(x: f32) -> Root
+pub fn sqrt(x: f32) -> Option<f32>
     ensures { result ≡ root_of x }
 {
     if x == 0.0 {
-        return Root::Root(x);
+        return Some(x);
     }
     if 0.0 < x {
-        return Root::Root(root_above_zero(x));
+        return Some(root_above_zero(x));
     }
-    Root::NoRoot
+    None
 }

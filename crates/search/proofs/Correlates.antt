@@ -31,8 +31,8 @@ inside_facts long start len from count e =
     record { frame = leb-true _ _ c.1; lags = (leb-true _ _ b.1, leb-true _ _ a.1); few = (leb-true _ _ d.0, leb-true _ _ d.1) }
 
 -- where they lie within x
-pub correlated_into_lem : (r x : List Float) (start len from : ℕ) → LagsInside (length x) start len from (length r) →
+pub correlated_where_inside : (r x : List Float) (start len from : ℕ) → LagsInside (length x) start len from (length r) →
     correlated_into r x start len from ≡ correlated x start len from (length r)
 unfolding correlated_into lags_inside
-correlated_into_lem r x start len from h =
+correlated_where_inside r x start len from h =
     rw (le-leb _ _ h.few.0, le-leb _ _ h.few.1, le-leb _ _ h.frame, le-leb _ _ h.lags.0, le-leb _ _ h.lags.1)

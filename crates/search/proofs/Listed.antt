@@ -11,6 +11,8 @@ use mathlib.Core.Bool.{Bool, true, false}
 use borrow.Author.Tests.{ltb-true, ltb-false}
 use lib.Dec.{ltb}
 use Rattle.floats.specs.Single.{at}
+use Rattle.std.proofs.Common.{reverse}
+use Rattle.std.proofs.lemmas.List.{length-reverse, get_or-reverse}
 use Rattle.search.specs.Lists.{list_of}
 
 pub list_of_length : (f : ℕ → Float) (n : ℕ) → length (list_of f n) ≡ n
@@ -48,6 +50,6 @@ as_list_of f r n l h =
 
 -- a list read from its last entry to its first
 pub turned : (f g : ℕ → Float) (s : List Float) (n : ℕ) → length s ≡ n → ((k : ℕ) → k < n → at s k ≡ f k) → ((k : ℕ) → k < n → f (n - 1 - k) ≡ g k) →
-    list_of (λ k. at s (length s - 1 - k)) n ≡ list_of g n
+    reverse s ≡ list_of g n
 turned f g s n l h e =
-    as_list_of g _ n (list_of_length _ n) (λ k b. list_of_at _ n k b ∙ rw l (h (n - 1 - k) (omega arith) ∙ e k b))
+    as_list_of g (reverse s) n (length-reverse s ∙ l) (λ k b. get_or-reverse s k nan (omega arith) ∙ rw l (h (n - 1 - k) (omega arith) ∙ e k b))

@@ -10,7 +10,7 @@ use lib.Ieee.{Float, nan, inf, fin, up, down, lt, div, round}
 use lib.ListN.{length, take, drop, length-take, length-drop}
 use Rattle.floats.specs.Single.{◌⊗◌, 0·0, decimal, at}
 use Rattle.root.specs.SquareRoot.{root_of}
-use Rattle.root.specs.declared.Root.TheVariants.{Root as found}
+use Rattle.std.proofs.Common.{Some}
 use Rattle.search.specs.Pitch.{correlation, energy, correlations, weight, weighted, searched, index_of_max, near_from, near_to, lag1, lag2, over_root, root_at, normalised, candidate_at, with_presence, chosen, detected, lag_within}
 use Rattle.search.specs.declared.pitch.Candidate.{Candidate}
 use Rattle.search.proofs.Listed.{list_of_length, list_of_at}
@@ -114,7 +114,7 @@ detected_range x len previous low high =
     chosen_range (candidate_at x len (lag1 r)) (candidate_at x len (lag2 r previous)) (lag1_range r) (omega (arith, lag2_range r previous (correlations_length x len) low high))
 
 -- a correlation above 0.0 over a root of 0.0 is infinite
-pub zero_root_is_infinite : (r : Float) → lt 0·0 r ≡ true → over_root r (found 0·0) ≡ inf false
+pub zero_root_is_infinite : (r : Float) → lt 0·0 r ≡ true → over_root r (Some 0·0) ≡ inf false
 unfolding lt div
 zero_root_is_infinite nan h = absurd (true≢false (sym h))
 zero_root_is_infinite (inf true) h = absurd (true≢false (sym h))

@@ -11,7 +11,7 @@ use lib.Ieee.{Float, nan, inf, fin, up, down, unlike, lt, add, mul, div, round}
 use lib.Ieee.Fits.{down_pos}
 use Rattle.floats.specs.Single.{◌⊗◌, 0·0, at}
 use Rattle.root.specs.SquareRoot.{root_of}
-use Rattle.root.specs.declared.Root.TheVariants.{Root as found}
+use Rattle.std.proofs.Common.{Some}
 use Rattle.lanes.specs.Sums.{product_sum, window}
 use Rattle.search.specs.Pitch.{correlation, energy, correlations, weight, weighted, lag1, lag2, root_at, normalised, chosen, detected}
 use Rattle.search.proofs.Listed.{list_of_at}
@@ -53,7 +53,7 @@ module _ (x : List Float) (len : ℕ) (short : len ≤ 64) (silent : (i : ℕ) �
   no_energy : (lag : ℕ) → energy x len lag ≡ 0·0
   no_energy lag = zero_sum (window x (114 - lag)) (window x (114 - lag)) len (λ i h. silent (114 - lag + i) (omega arith)) (λ i h. silent (114 - lag + i) (omega arith))
 
-  zero_root : (lag : ℕ) → root_at x len lag ≡ found 0·0
+  zero_root : (lag : ℕ) → root_at x len lag ≡ Some 0·0
   unfolding root_at root_of mul
   zero_root lag = rw (no_energy 0, no_energy lag)
 
@@ -73,7 +73,7 @@ module _ (x : List Float) (len : ℕ) (short : len ≤ 64) (silent : (i : ℕ) �
       rw (stays_first r (length r) (λ i h. null_lt (null_weighted 0 (omega arith)) (null_weighted i (omega (arith, long)))))
 
   -- from silence: lag 17, absent, with a correlation and a root of 0.0, whatever the previous lag was
-  pub silence : (previous : ℕ) → detected x len previous ≡ record { t_curr = 17; present = false; correlation = 0·0; root = found 0·0 }
+  pub silence : (previous : ℕ) → detected x len previous ≡ record { t_curr = 17; present = false; correlation = 0·0; root = Some 0·0 }
   unfolding detected chosen mul lt round
   silence previous =
       rw (nothing_normalised (lag1 (correlations x len)), nothing_normalised (lag2 (correlations x len) previous), first_lag, no_correlation 17, zero_root 17)

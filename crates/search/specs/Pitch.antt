@@ -1,10 +1,8 @@
 -- The pitch search at 6.4 kHz. x is the signal, entry 114 the frame's first sample, len the frame's length. Definitions only.
-use Rattle.std.specs.Prelude.{ℕ, zero, suc, ◌+◌, ◌-◌, min, max, cond, ◌&&◌, List, leb, Float, length, take, drop}
+use Rattle.std.specs.Prelude.{ℕ, zero, suc, ◌+◌, ◌-◌, min, max, cond, ◌&&◌, List, leb, Float, length, take, drop, Option, Some, None}
 use Rattle.std.specs.Float.Ieee.{lt}
 use Rattle.floats.specs.Single.{◌⊖◌, ◌⊗◌, ◌⊘◌, 0·0, decimal, float, at}
 use Rattle.root.specs.SquareRoot.{root_of}
-use Rattle.root.specs.declared.Root.{Root}
-use Rattle.root.specs.declared.Root.TheVariants.{Root as found, NoRoot}
 use Rattle.lanes.specs.Sums.{product_sum, window}
 use Rattle.search.specs.Lists.{list_of}
 use Rattle.search.specs.declared.pitch.Detected.{Detected}
@@ -60,12 +58,12 @@ abbrev pub above_zero : Float → Float
 above_zero q = cond (lt 0·0 q) q 0·0
 
 -- r over a root, and 0.0 where there is none
-abbrev pub over_root : Float → Root → Float
-over_root r NoRoot = 0·0
-over_root r (found v) = above_zero (r ⊘ v)
+abbrev pub over_root : Float → Option Float → Float
+over_root r None = 0·0
+over_root r (Some v) = above_zero (r ⊘ v)
 
 -- the root of the product of the two energies
-unfoldable pub root_at : List Float → ℕ → ℕ → Root
+unfoldable pub root_at : List Float → ℕ → ℕ → Option Float
 root_at x len lag = root_of (energy x len 0 ⊗ energy x len lag)
 
 -- the correlation at a lag, over that root

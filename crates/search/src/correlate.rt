@@ -2,31 +2,20 @@
 ghost use Rattle.std.specs.Prelude.{◌≡◌, ◌+◌, ◌≤◌, length};
 ghost use Rattle.search.specs.Correlate.{correlated, lags_inside, correlated_into};
 
-use crate::sums::{put_sums, turn_round};
+use crate::sums::put_sums;
 
 // Whether a frame and all its lags lie within `long` samples, and the lags are 8 to 17, from 1 on.
+#[tactic(auto, unfolding(crate::specs::Correlate::lags_inside))]
 fn lags_inside(long: usize, start: usize, len: usize, from: usize, count: usize) -> bool
     ensures { result ≡ lags_inside long start len from count }
 {
-    if count < 8 {
-        return false;
-    }
-    if count > 17 {
-        return false;
-    }
-    if start > long {
-        return false;
-    }
-    if len > long - start {
-        return false;
-    }
-    if from < 1 {
-        return false;
-    }
-    if from > start {
-        return false;
-    }
-    count - 1 <= start - from
+    8 <= count
+        && count <= 17
+        && start <= long
+        && len <= long - start
+        && 1 <= from
+        && from <= start
+        && count - 1 <= start - from
 }
 
 // Correlates where all lags lie within x.
@@ -38,9 +27,8 @@ fn correlate_inside(x: &[f32], start: usize, len: usize, from: usize, r: &mut [f
     let count = r.len();
     let last = count - 8;
     let first = start + 1 - (from + count);
-    let mut sums = [0.0f32; 17];
-    put_sums(x, start, first, len, &mut sums[..count], 0, last / 2, last);
-    turn_round(&sums[..count], r);
+    put_sums(x, start, first, len, r, 0, last / 2, last);
+    r.reverse();
 }
 
 // The correlations of the len samples from start on with what lies `from` samples before them, and more

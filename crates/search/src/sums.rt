@@ -1,9 +1,7 @@
 // The sum that every correlation and every energy is: products of two windows of one signal. Sums of
 // neighbouring windows are made side by side.
-ghost use Rattle.std.specs.Prelude.{◌≡◌, ◌+◌, ◌-◌, ◌≤◌, length};
-ghost use Rattle.floats.specs.Single.{at};
+ghost use Rattle.std.specs.Prelude.{◌≡◌, ◌+◌, ◌≤◌, length};
 ghost use Rattle.lanes.specs.Sums.{product_sum, window};
-ghost use Rattle.search.specs.Lists.{list_of};
 ghost use Rattle.search.specs.Blocks.{eight};
 
 // The products of the samples from `a` on with those from `b` on, summed in their order from 0.0.
@@ -12,8 +10,8 @@ pub(crate) fn sum_of_products(x: &[f32], a: usize, b: usize, len: usize) -> f32
     ensures { result ≡ product_sum (window x.now a) (window x.now b) len }
 {
     let mut sum = 0.0;
-    for n in 0..len {
-        sum = sum + x[a + n] * x[b + n];
+    for (p, q) in x[a..a + len].iter().zip(&x[b..b + len]) {
+        sum += p * q;
     }
     sum
 }
@@ -38,14 +36,4 @@ pub(crate) fn put_sums(
     lanes::store(r, i, s.first);
     lanes::store(r, j, s.second);
     lanes::store(r, k, s.third);
-}
-
-// Copies s to r from its last entry to its first.
-pub(crate) fn turn_round(s: &[f32], r: &mut [f32])
-    requires { length s.now ≡ length r.old }
-    ensures { r.new ≡ list_of (λ k. at s.now (length s.now - 1 - k)) (length r.old) }
-{
-    for k in 0..r.len() {
-        r[k] = s[s.len() - 1 - k];
-    }
 }

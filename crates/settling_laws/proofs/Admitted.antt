@@ -8,12 +8,13 @@ use borrow.Author.Tests.{eqb-true}
 use lib.Dec.{ltb, eqb}
 use lib.Ieee.{Float}
 use lib.ListN.{length, drop, length-append, length-drop}
+use Rattle.std.proofs.Common.{Option}
 use Rattle.slices.specs.Slices.{stored}
 use Rattle.slices.proofs.Stored.{length_stored}
 use Rattle.rates.specs.declared.config.Lc3Config.{Lc3Config}
 use Rattle.rates.proofs.Known.{both}
-use Rattle.lag.specs.declared.gain.Gain.{Gain}
 use Rattle.lag.specs.declared.rescale.Lag.{Lag}
+use Rattle.lag.specs.declared.gain.Gain.{Gain}
 use Rattle.filter.specs.Transition.{transition_of}
 use Rattle.filter.proofs.OutputsLong.{outputs_long}
 use Rattle.control.specs.State.{no_lag, lag_fits}
@@ -35,7 +36,7 @@ use Rattle.settling_laws.proofs.Held.{held, past_x, past_y}
 -- whether it is active, its gain and its lag, the lent rows and its samples
 pub record Admitted (c : Lc3Config) : Type 0 where
   pub active : Bool
-  pub gain : Gain
+  pub gain : Option Gain
   pub lag : Lag
   pub numerators : List Float
   pub denominators : List Float
@@ -45,7 +46,7 @@ pub record Admitted (c : Lc3Config) : Type 0 where
   pub count : length samples ≡ c.nf
 
 -- the plan for it
-abbrev pub plan_with : Marks → Lc3Config → Bool → Gain → Lag → Plan
+abbrev pub plan_with : Marks → Lc3Config → Bool → Option Gain → Lag → Plan
 plan_with m c active gain lag = record {
   config = c;
   active = active;

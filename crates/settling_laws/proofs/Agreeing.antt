@@ -2,15 +2,16 @@
 -- reply and leaves them so.
 use Prim.Native.Nat.{ℕ, ◌+◌, ◌-◌, ◌≤◌}
 use mathlib.Core.Path.{◌≡◌, refl, sym, ◌∙◌}
-use mathlib.Core.Bool.{Bool, true, false, true≢false}
+use mathlib.Core.Bool.{Bool, true, false}
 use mathlib.Core.List.{List, [], ◌∷◌, ◌++◌, map}
 use native.Mathlib.Omega.{arith}
 use lib.Ieee.{Float}
 use lib.ListN.{length, drop, length-drop}
 use lib.Seq.{drop-drop}
+use Rattle.std.proofs.Common.{Option}
 use Rattle.rates.specs.declared.config.Lc3Config.{Lc3Config}
-use Rattle.lag.specs.declared.gain.Gain.{Gain}
 use Rattle.lag.specs.declared.rescale.Lag.{Lag}
+use Rattle.lag.specs.declared.gain.Gain.{Gain}
 use Rattle.coefficients.specs.Coefficients.{filter_of, new_filter}
 use Rattle.filter.specs.Required.{Inside}
 use Rattle.filter.proofs.Alike.{Alike, alike_later, append_alike, outputs_alike}
@@ -54,11 +55,11 @@ pub record Agree (c : Lc3Config) (a b : Decoder) : Type 0 where
   pub outputs : Alike (oldest c) (past_y c a) (past_y c b)
 
 -- an active frame's filter reads no further than its reach
-new_inside : (c : Lc3Config) → FromTable c → (active : Bool) (gain : Gain) (lag : Lag) (nums dens : List Float) → lag_fits c.fs active lag ≡ true →
+new_inside : (c : Lc3Config) → FromTable c → (active : Bool) (gain : Option Gain) (lag : Lag) (nums dens : List Float) → lag_fits c.fs active lag ≡ true →
     active ≡ true → Inside (new_filter c.fs.l_den active gain lag nums dens) (reach c.fs)
 unfolding new_filter filter_of
 new_inside c k true gain lag nums dens l e = inside_reach c k _ refl lag refl l
-new_inside c k false gain lag nums dens l e = absurd (true≢false (sym e))
+new_inside c k false gain lag nums dens l e = cc
 
 module _ {c : Lc3Config} {a b : Decoder} (g : Agree c a b) (f : Admitted c) where
   same_out : (admit a f).1 ≡ (admit b f).1
@@ -104,11 +105,11 @@ module _ {c : Lc3Config} {a b : Decoder} (g : Agree c a b) (f : Admitted c) wher
 
 module _ (c : Lc3Config) (f : Given) (a b : Decoder) (g : Agree c a b) where
   agree_judged : (o : OutcomeOf c f) → Agree c (framed_on c f a o).0.decoder (framed_on c f b o).0.decoder
-  agree_judged (declined answer l h) = g
+  agree_judged (declined why l h) = g
   agree_judged (passed lag p) = agree_admitted g (admitted c f lag p)
 
   same_judged : (o : OutcomeOf c f) → reply_of (framed_on c f a o) ≡ reply_of (framed_on c f b o)
-  same_judged (declined answer l h) = rw g.settled
+  same_judged (declined why l h) = rw g.settled
   same_judged (passed lag p) = rw (same_out g (admitted c f lag p), same_mark g (admitted c f lag p))
 
   agree_after : Agree c (after a (frame f)) (after b (frame f))

@@ -5,8 +5,9 @@
 -- included, for every list of later frames.
 use mathlib.Core.Path.{◌≡◌, sym, ◌∙◌, subst}
 use mathlib.Core.List.{List, map}
+use Rattle.std.proofs.Common.{Result, Ok}
 use Rattle.rates.specs.declared.config.Lc3Config.{Lc3Config}
-use Rattle.rates.specs.declared.config.Configured.TheVariants.{Config}
+use Rattle.rates.specs.declared.answer.Refusal.{Refusal}
 use Rattle.decoder.specs.declared.state.Decoder.{Decoder}
 use Rattle.settling_laws.specs.Calls.{Given, Call, frame, after_all, replies, events, heard, FitState, Fit, SettleAlike}
 use Rattle.settling_laws.proofs.Held.{held}
@@ -19,7 +20,7 @@ pub same_config : (a b : Decoder) (fa : Fit a) (fb : Fit b) → a.registers.mark
 same_config a b fa fb r t =
     let p = (held fa.0 a fa.1).fitting.config in
     let q = (held fb.0 b fb.1).fitting.config in
-    let e : Config fb.0 ≡ Config fa.0 = sym q ∙ rw (← r, ← t) p in
+    let e : ◌≡◌ {A = Result Lc3Config Refusal} (Ok fb.0) (Ok fa.0) = sym q ∙ rw (← r, ← t) p in
     let same : fb.0 ≡ fa.0 = cc in
     subst (λ (k : Lc3Config). FitState k b) same fb.1
 

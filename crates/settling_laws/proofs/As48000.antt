@@ -3,20 +3,22 @@
 -- rate that it names.
 use Prim.Native.Nat.{ℕ}
 use mathlib.Core.Path.{◌≡◌, refl, sym, ap, ◌∙◌, subst}
-use mathlib.Core.Bool.{true, true≢false}
+use mathlib.Core.Bool.{true}
 use mathlib.Core.List.{List, []}
 use lib.Ieee.{Float}
+use Rattle.std.proofs.Common.{Option, Some, None, Result, Ok, Err}
 use Rattle.call_laws.proofs.Renamed.{Alike, all_renamed}
 use Rattle.rates.specs.Table.{find, row_of}
 use Rattle.rates.specs.Durations.{duration_of}
 use Rattle.rates.specs.Configs.{configured}
-use Rattle.rates.specs.declared.duration.FoundDuration.{FoundDuration}
-use Rattle.rates.specs.declared.config.Configured.{Configured}
 use Rattle.rates.proofs.Renaming.{Like48000, like_44100, like_48000}
+use Rattle.rates.specs.declared.answer.Refusal.{Refusal}
+use Rattle.rates.specs.declared.config.Lc3Config.{Lc3Config}
+use Rattle.rates.specs.declared.duration.FrameDuration.{FrameDuration}
 use Rattle.control.specs.State.{cleared_marks}
 use Rattle.judging.specs.Judge.{judged}
+use Rattle.judging.specs.declared.plan.Plan.{Plan}
 use Rattle.control.specs.Next.{next_marks}
-use Rattle.judging.specs.declared.plan.Verdict.{Verdict}
 use Rattle.decoder.specs.State.{cleared, started_with, started, fit_decoder}
 use Rattle.decoder.specs.Frame.{accepted, framed_with, framed, lost_with, lost_from}
 use Rattle.decoder.specs.declared.state.Decoder.{Decoder}
@@ -31,24 +33,24 @@ frame_keeps_rate : (d : Decoder) (f : Given) → (after d (frame f)).registers.m
 unfolding framed accepted next_marks
 frame_keeps_rate d f = go (judged d.registers.marks (fit_decoder d) f.numerators f.denominators f.side f.samples)
   where
-    go : (v : Verdict) → (framed_with d f.numerators f.denominators f.samples v).0.decoder.registers.marks.rate ≡ d.registers.marks.rate
-    go (Verdict.Refused answer) = refl
-    go (Verdict.Accepted plan) = refl
+    go : (v : Result Plan Refusal) → (framed_with d f.numerators f.denominators f.samples v).0.decoder.registers.marks.rate ≡ d.registers.marks.rate
+    go (Err refusal) = refl
+    go (Ok plan) = refl
 
 loss_keeps_rate : (d : Decoder) → (after d loss).registers.marks.rate ≡ d.registers.marks.rate
 unfolding lost_from
 loss_keeps_rate d = go (fit_decoder d)
   where
-    go : (k : Configured) → (lost_with d k).decoder.registers.marks.rate ≡ d.registers.marks.rate
-    go (Configured.Refused answer) = refl
-    go (Configured.Config c) = refl
+    go : (k : Result Lc3Config Refusal) → (lost_with d k).decoder.registers.marks.rate ≡ d.registers.marks.rate
+    go (Err refusal) = refl
+    go (Ok c) = refl
 
 -- a state whose rate is like 48000, and the same state named so: a call
 abbrev Like : Decoder → Type 0
 Like d = Like48000 d.registers.marks.rate
 
 one : (d : Decoder) (c : Call) → is_later c ≡ true → Like d → Alike (decoder_with frames) (renamed 48000) Like d c
-one d (start rate duration) q like = absurd (true≢false (sym q))
+one d (start rate duration) q like = cc
 one d (frame f) q like =
     let same = framed_renamed 48000 d (like d.registers.marks.duration) f in
     record {
@@ -70,13 +72,13 @@ begun : (duration : ℕ) → ((started 48000 duration).answer ≡ (started 44100
 unfolding find cleared cleared_marks
 begun duration = go (duration_of duration)
   where
-    at : ℕ → FoundDuration → Started
+    at : ℕ → Option FrameDuration → Started
     at rate t = started_with rate duration (configured (row_of rate) t)
 
-    go : (t : FoundDuration) → ((at 48000 t).answer ≡ (at 44100 t).answer) ×
+    go : (t : Option FrameDuration) → ((at 48000 t).answer ≡ (at 44100 t).answer) ×
         ((at 48000 t).decoder ≡ renamed 48000 (at 44100 t).decoder) × Like48000 (at 44100 t).decoder.registers.marks.rate
-    go FoundDuration.Unknown = (refl, refl, like_48000)
-    go (FoundDuration.Duration t) = (refl, refl, like_44100)
+    go None = (refl, refl, like_48000)
+    go (Some t) = (refl, refl, like_44100)
 
 pub record As48000 (duration : ℕ) (calls : List Call) : Type 0 where
   pub answer : (started 48000 duration).answer ≡ (started 44100 duration).answer

@@ -77,7 +77,7 @@ counted_admitted d es k f false p =
 
 pub counted_judged : (c : Lc3Config) (f : Given) (d : Decoder) (es : List Event) → Counted d es → (o : OutcomeOf c f) →
     Counted (framed_on c f d o).0.decoder (happened c f o ∷ es)
-counted_judged c f d es k (declined answer l h) =
+counted_judged c f d es k (declined why l h) =
     let same : max (row (since es)) (longest (since es)) ≡ longest (since es) = omega (arith, row_longest (since es)) in
     record { run = k.run; settled = rw same k.settled }
 counted_judged c f d es k (passed lag p) = counted_admitted d es k (admitted c f lag p) (admitted c f lag p).active refl

@@ -4,13 +4,12 @@ use mathlib.Core.Path.{◌≡◌, refl, ap}
 use mathlib.Core.List.{List, [], ◌∷◌, map}
 use native.Mathlib.Omega.{arith}
 use lib.ListN.{length-replicate}
+use Rattle.std.proofs.Common.{Result, Ok, Err}
 use Rattle.floats.specs.Single.{0·0}
 use Rattle.rates.specs.Table.{find}
 use Rattle.rates.specs.Configs.{config_of}
 use Rattle.rates.specs.declared.config.Lc3Config.{Lc3Config}
-use Rattle.rates.specs.declared.config.Configured.{Configured}
-use Rattle.rates.specs.declared.config.Configured.TheVariants.{Config, Refused}
-use Rattle.rates.specs.declared.answer.Answer.TheVariants.{Done}
+use Rattle.rates.specs.declared.answer.Refusal.{Refusal}
 use Rattle.control.specs.State.{cleared_marks}
 use Rattle.control.specs.Next.{unsettled}
 use Rattle.control.proofs.Sizes.{from_table, sized}
@@ -28,7 +27,7 @@ use Rattle.settling_laws.proofs.Admitted.{admit_fit}
 use Rattle.settling_laws.proofs.Judging.{OutcomeOf, outcome_of, framed_on, framed_judged, admitted}
 
 -- a cleared state of a known rate and duration
-pub cleared_fit : (rate duration : ℕ) (c : Lc3Config) → config_of rate duration ≡ Config c → FitState c (cleared rate duration)
+pub cleared_fit : (rate duration : ℕ) (c : Lc3Config) → config_of rate duration ≡ Ok c → FitState c (cleared rate duration)
 unfolding cleared cleared_marks
 cleared_fit rate duration c e =
     let z = sized c (from_table rate duration c e) in
@@ -43,9 +42,9 @@ pub started_fit : (rate duration : ℕ) → Fit (started rate duration).decoder
 unfolding find
 started_fit rate duration = go (config_of rate duration) refl
   where
-    go : (k : Configured) → config_of rate duration ≡ k → Fit (started_with rate duration k).decoder
-    go (Config c) e = (c, cleared_fit rate duration c e)
-    go (Refused a) e = (_, cleared_fit 48000 10000 _ refl)
+    go : (k : Result Lc3Config Refusal) → config_of rate duration ≡ k → Fit (started_with rate duration k).decoder
+    go (Ok c) e = (c, cleared_fit rate duration c e)
+    go (Err refusal) e = (_, cleared_fit 48000 10000 _ refl)
 
 -- a loss mark changes the marks
 abbrev pub unsettled_decoder : Decoder → Decoder
@@ -53,7 +52,7 @@ unsettled_decoder d = joined (record { marks = unsettled d.registers.marks; bloc
     d.x_hat_mem d.x_hat_ltpf_mem
 
 -- and is accepted
-pub lost_done : (c : Lc3Config) (d : Decoder) → FitState c d → lost_from d ≡ framed_as Done (unsettled_decoder d)
+pub lost_done : (c : Lc3Config) (d : Decoder) → FitState c d → lost_from d ≡ framed_as (Ok tt) (unsettled_decoder d)
 unfolding lost_from
 lost_done c d s = rw s.found
 
@@ -67,7 +66,7 @@ unsettled_fit c d s =
 
 -- a frame, whatever its outcome
 pub judged_fit : (c : Lc3Config) (f : Given) (d : Decoder) → FitState c d → (o : OutcomeOf c f) → FitState c (framed_on c f d o).0.decoder
-judged_fit c f d s (declined answer l h) = s
+judged_fit c f d s (declined why l h) = s
 judged_fit c f d s (passed lag p) = admit_fit s (admitted c f lag p)
 
 pub framed_fit : (c : Lc3Config) (f : Given) (d : Decoder) → FitState c d → FitState c (framed_by d f).0.decoder

@@ -4,15 +4,15 @@ use mathlib.Core.Path.{◌≡◌, refl, sym, ◌∙◌, ap}
 use mathlib.Core.Bool.{false}
 use mathlib.Core.List.{List, [], ◌∷◌}
 use native.Mathlib.Omega.{arith}
+use Rattle.std.proofs.Common.{Option, Some, None, Result, Ok, Err}
 use Rattle.rates.specs.Table.{row_of}
 use Rattle.rates.specs.Durations.{duration_of}
 use Rattle.rates.specs.Configs.{configured, config_of}
 use Rattle.rates.specs.Answers.{number_of}
-use Rattle.rates.specs.declared.table.FoundRate.{FoundRate}
-use Rattle.rates.specs.declared.duration.FoundDuration.{FoundDuration}
 use Rattle.rates.specs.declared.config.Lc3Config.{Lc3Config}
-use Rattle.rates.specs.declared.config.Configured.{Configured}
-use Rattle.rates.specs.declared.config.Configured.TheVariants.{Config, Refused}
+use Rattle.rates.specs.declared.answer.Refusal.{Refusal}
+use Rattle.rates.specs.declared.duration.FrameDuration.{FrameDuration}
+use Rattle.rates.specs.declared.table.Rate.{Rate}
 use Rattle.control.specs.State.{cleared_marks}
 use Rattle.judging.proofs.Judging.{declined, passed}
 use Rattle.decoder.specs.State.{cleared, started_with, started}
@@ -36,9 +36,9 @@ followed_start rate duration es e =
     let k = clear (config_of rate duration) in
     record { config = f.0; fit = f.1; counted = counted_anew (started rate duration).decoder es k.0 k.1 e }
   where
-    clear : (k : Configured) → ((started_with rate duration k).decoder.registers.marks.run ≡ 0) × ((started_with rate duration k).decoder.registers.marks.settled ≡ false)
-    clear (Config c) = (refl, refl)
-    clear (Refused a) = (refl, refl)
+    clear : (k : Result Lc3Config Refusal) → ((started_with rate duration k).decoder.registers.marks.run ≡ 0) × ((started_with rate duration k).decoder.registers.marks.settled ≡ false)
+    clear (Ok c) = (refl, refl)
+    clear (Err refusal) = (refl, refl)
 
 followed_after : (d : Decoder) (es : List Event) (c : Call) → Followed d es → Followed (after d c) (event d c ∷ es)
 followed_after d es (start rate duration) k = followed_start rate duration (restart ∷ es) refl
@@ -57,7 +57,7 @@ reports_mark k d s (start rate duration) = refl
 reports_mark k d s (frame f) = rw (reply_judged k f d s, after_judged k f d s) (go (outcome_of k f))
   where
     go : (o : OutcomeOf k f) → (framed_on k f d o).0.settled ≡ (framed_on k f d o).0.decoder.registers.marks.settled
-    go (declined answer l h) = refl
+    go (declined why l h) = refl
     go (passed lag p) = refl
 reports_mark k d s loss = ap (λ (r : Framed). r.settled) (lost_done k d s) ∙ sym (ap (λ (e : Decoder). e.registers.marks.settled) (after_lost k d s))
 
@@ -65,14 +65,14 @@ reports_mark k d s loss = ap (λ (r : Framed). r.settled) (lost_done k d s) ∙ 
 pub answer_small : (k : Lc3Config) (d : Decoder) → FitState k d → (c : Call) → number_of (reply d c).answer ≤ 8
 answer_small k d s (start rate duration) = go (row_of rate) (duration_of duration)
   where
-    go : (r : FoundRate) (t : FoundDuration) → number_of (started_with rate duration (configured r t)).answer ≤ 8
-    go FoundRate.Unknown t = omega arith
-    go (FoundRate.Row row) FoundDuration.Unknown = omega arith
-    go (FoundRate.Row row) (FoundDuration.Duration t) = omega arith
+    go : (r : Option Rate) (t : Option FrameDuration) → number_of (started_with rate duration (configured r t)).answer ≤ 8
+    go None t = omega arith
+    go (Some row) None = omega arith
+    go (Some row) (Some t) = omega arith
 answer_small k d s (frame f) = rw (reply_judged k f d s) (go (outcome_of k f))
   where
     go : (o : OutcomeOf k f) → number_of (framed_on k f d o).0.answer ≤ 8
-    go (declined answer l h) = h
+    go (declined why l h) = h
     go (passed lag p) = omega arith
 answer_small k d s loss = rw (lost_done k d s) (omega arith)
 

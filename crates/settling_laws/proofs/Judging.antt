@@ -6,7 +6,7 @@ use native.Mathlib.Omega.{arith}
 use borrow.Author.Tests.{ne_eqb}
 use lib.Dec.{eqb}
 use lib.Ieee.{Float}
-use Rattle.rates.specs.Answers.{number_of}
+use Rattle.rates.specs.Answers.{number_of, refusal_number}
 use Rattle.rates.specs.declared.config.Lc3Config.{Lc3Config}
 use Rattle.lag.specs.Sent.{sent_of}
 use Rattle.lag.specs.Gain.{gain_of, bits_of}
@@ -52,7 +52,7 @@ admitted c f lag p = record {
 
 -- what the frame was, by its outcome
 abbrev pub happened : (c : Lc3Config) (f : Given) → OutcomeOf c f → Event
-happened c f (declined answer l h) = refusal
+happened c f (declined why l h) = refusal
 happened c f (passed lag p) = cond (is_active f.side.pitch) active (quiet f.samples)
 
 pub event_judged : (c : Lc3Config) (f : Given) (d : Decoder) → FitState c d → event d (frame f) ≡ happened c f (outcome_of c f)
@@ -60,7 +60,7 @@ event_judged c f d s = rw (framed_judged c f d s) (go (outcome_of c f))
   where
     go : (o : OutcomeOf c f) →
         cond (eqb (number_of (framed_on c f d o).0.answer) 0) (cond (is_active f.side.pitch) active (quiet f.samples)) refusal ≡ happened c f o
-    go (declined answer l h) = let some : number_of answer ≡ 0 → ⊥ = λ e. omega arith in rw (ne_eqb (number_of answer) 0 some)
+    go (declined why l h) = rw (ne_eqb (refusal_number why) 0 (λ e. omega arith))
     go (passed lag p) = refl
 
 pub after_judged : (c : Lc3Config) (f : Given) (d : Decoder) → FitState c d → after d (frame f) ≡ (framed_on c f d (outcome_of c f)).0.decoder

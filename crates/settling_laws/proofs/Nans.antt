@@ -11,6 +11,7 @@ use lib.Dec.{ltb}
 use lib.ListN.{length, take, drop, replicate, length-map, length-drop, length-replicate, get_or-replicate, get_or-append}
 use lib.Seq.{length-take-le, get_or-append_seam, get_or-append-add, get_or-take, get_or-drop}
 use lib.Ieee.{Float, nan, inf, fin, add, sub, mul, neg, round, sum}
+use Rattle.std.proofs.lemmas.List.{get_or-map}
 use Rattle.floats.specs.Single.{◌⊕◌, ◌⊖◌, ◌⊗◌, 0·0, at}
 use Rattle.coefficients.specs.Coefficients.{row_of_set, scaled, Filter}
 use Rattle.filter.specs.Filter.{num_sum, den_sum, F}
@@ -139,11 +140,6 @@ pub moved_zero : (p s : List Float) (h n : ℕ) → length p ≡ h → ZeroTo h 
 moved_zero p s h n e zp zs i l = get_or-drop n (p ++ s) i nan ∙ append_zero p s h n e zp zs (n + i) (omega arith)
 
 -- a gain times a row of 0.0
-at_map : (f : Float → Float) (l : List Float) (i : ℕ) → i < length l → at (map f l) i ≡ f (at l i)
-at_map f [] i h = absurd (omega arith)
-at_map f (x ∷ xs) zero h = refl
-at_map f (x ∷ xs) (suc i) h = at_map f xs i (omega arith)
-
 pub scaled_zero : (size entries r : ℕ) (g : Float) → g ⊗ 0·0 ≡ 0·0 → r ≤ 3 →
     ZeroTo entries (scaled size g (row_of_set entries r (replicate (4 * entries) 0·0)))
 scaled_zero size entries r g e few i l =
@@ -152,5 +148,5 @@ scaled_zero size entries r g e few i l =
     let all : length set ≡ 4 * entries = length-replicate (4 * entries) 0·0 in
     let long : length (take entries (drop (r * entries) set)) ≡ entries = length-take-le entries (drop (r * entries) set) (simp length-drop (omega arith)) in
     get_or-append (map (λ v. g ⊗ v) (take entries (drop (r * entries) set))) _ nan i (rw (length-map (take entries (drop (r * entries) set)) (λ v. g ⊗ v), long) l)
-    ∙ at_map (λ v. g ⊗ v) (take entries (drop (r * entries) set)) i (omega arith)
+    ∙ get_or-map (λ v. g ⊗ v) (take entries (drop (r * entries) set)) i nan nan (omega arith)
     ∙ rw (get_or-take entries (drop (r * entries) set) i nan l, get_or-drop (r * entries) set i nan, get_or-replicate (4 * entries) (r * entries + i) 0·0 nan (omega arith)) e

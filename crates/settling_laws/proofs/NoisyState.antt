@@ -10,10 +10,10 @@ use lib.Dec.{ltb}
 use lib.Ieee.{nan}
 use lib.ListN.{length, take, drop, replicate, length-replicate, get_or-append}
 use lib.Seq.{get_or-drop, get_or-append-add}
+use Rattle.std.proofs.Common.{Ok}
 use Rattle.floats.specs.Single.{0·0, at}
 use Rattle.rates.specs.Configs.{config_of}
 use Rattle.rates.specs.declared.config.Lc3Config.{Lc3Config}
-use Rattle.rates.specs.declared.config.Configured.TheVariants.{Config}
 use Rattle.lag.specs.Lag.{rescaled}
 use Rattle.lag.proofs.Lags.{quarters_ends}
 use Rattle.coefficients.specs.Coefficients.{filter_of, new_filter}
@@ -50,7 +50,7 @@ noisy rate duration c = record {
   x_hat_ltpf_mem = replicate 1080 nan;
 }
 
-pub noisy_fit : (rate duration : ℕ) (c : Lc3Config) → config_of rate duration ≡ Config c → FitState c (noisy rate duration c)
+pub noisy_fit : (rate duration : ℕ) (c : Lc3Config) → config_of rate duration ≡ Ok c → FitState c (noisy rate duration c)
 unfolding next_marks cleared_marks
 noisy_fit rate duration c e =
     let z = sized c (from_table rate duration c e) in

@@ -7,27 +7,23 @@ use mathlib.Core.List.{List}
 use lib.Dec.{leb, eqb}
 use lib.Ieee.{Float}
 use lib.ListN.{length}
+use Rattle.std.proofs.Common.{Option, Some, None, Result, Ok, Err}
 use Rattle.floats.specs.Single.{all_in_range}
 use Rattle.rates.specs.Configs.{config_of}
-use Rattle.rates.specs.declared.answer.Answer.{Answer}
-use Rattle.rates.specs.declared.answer.Answer.TheVariants.{CoefficientCount, CoefficientNotFinite, SampleCount, TooManyBits, SampleOutOfRange, UnfitState}
+use Rattle.rates.specs.declared.answer.Refusal.TheVariants.{CoefficientCount, CoefficientNotFinite, SampleCount, TooManyBits, SampleOutOfRange, UnfitState}
 use Rattle.rates.specs.declared.table.Rate.{Rate}
 use Rattle.rates.specs.declared.config.Lc3Config.{Lc3Config}
-use Rattle.rates.specs.declared.config.Configured.{Configured}
-use Rattle.rates.specs.declared.config.Configured.TheVariants.{Config, Refused}
 use Rattle.rates.proofs.Renaming.{row_as, config_as, configured_as, test_as}
+use Rattle.rates.specs.declared.answer.Refusal.{Refusal}
 use Rattle.lag.specs.Lag.{unscaled_of, scaled_to}
-use Rattle.lag.specs.declared.index.Unscaled.{Unscaled}
 use Rattle.lag.specs.declared.pitch.PitchRecord.{PitchRecord}
 use Rattle.lag.specs.declared.pitch.PitchRecord.TheVariants.{Absent, Present}
 use Rattle.lag.specs.declared.rescale.Lag.{Lag}
-use Rattle.lag.specs.declared.rescale.FoundLag.{FoundLag}
 use Rattle.judging.specs.Pitch.{lag_where, lag_for}
 use Rattle.control.specs.State.{lag_fits}
 use Rattle.judging.specs.Judge.{unless, set_counts, set_finite, plan_of, lag_judged, judged_side, ranged, judged}
+use Rattle.judging.specs.declared.plan.Plan.{Plan}
 use Rattle.control.specs.Next.{next_marks}
-use Rattle.judging.specs.declared.plan.Verdict.{Verdict}
-use Rattle.judging.specs.declared.plan.Verdict.TheVariants.{Accepted}
 use Rattle.on_ring.specs.Registers.{block_fits, ring_fits, fit_as}
 use Rattle.decoder.specs.State.{fit_decoder}
 use Rattle.decoder.specs.Frame.{framed_with, framed, accepted, lost_with, lost_from}
@@ -51,39 +47,39 @@ module _ (hz : ℕ) where
   lag_for_as fs Absent = refl
   lag_for_as fs (Present p) = go (unscaled_of p.index)
     where
-      go : (u : Unscaled) → lag_where p.active (scaled_to (row_as hz fs) u) ≡ lag_where p.active (scaled_to fs u)
-      go (Unscaled.Quarters q) = refl
-      go Unscaled.IndexTooLarge = refl
+      go : (u : Option ℕ) → lag_where p.active (scaled_to (row_as hz fs) u) ≡ lag_where p.active (scaled_to fs u)
+      go (Some q) = refl
+      go None = refl
 
   -- fitness, where the two names find the same but for the name
   fit_as_lem : (d : Decoder) → config_of hz d.registers.marks.duration ≡ configured_as hz (config_of d.registers.marks.rate d.registers.marks.duration) →
       fit_decoder (renamed hz d) ≡ configured_as hz (fit_decoder d)
   unfolding block_fits
-  fit_as_lem d same = ap (λ (k : Configured). fit_as (renamed hz d).registers k) same ∙ go (config_of d.registers.marks.rate d.registers.marks.duration)
+  fit_as_lem d same = ap (λ (k : Result Lc3Config Refusal). fit_as (renamed hz d).registers k) same ∙ go (config_of d.registers.marks.rate d.registers.marks.duration)
     where
-      go : (k : Configured) → fit_as (renamed hz d).registers (configured_as hz k) ≡ configured_as hz (fit_as d.registers k)
-      go (Refused answer) = refl
-      go (Config c) =
+      go : (k : Result Lc3Config Refusal) → fit_as (renamed hz d).registers (configured_as hz k) ≡ configured_as hz (fit_as d.registers k)
+      go (Err refusal) = refl
+      go (Ok c) =
           rw (lag_fits_as c.fs d.registers.marks.ltpf_active_prev d.registers.marks.lag) (test_as hz c (ring_fits c d.registers) UnfitState)
 
 -- a frame
 module _ (hz : ℕ) (d : Decoder) (f : Given) where
   -- what a verdict on the state leads to, and one on the renamed state
-  abbrev led : Verdict → Framed × List Float
+  abbrev led : Result Plan Refusal → Framed × List Float
   led v = framed_with d f.numerators f.denominators f.samples v
 
-  abbrev led_as : Verdict → Framed × List Float
+  abbrev led_as : Result Plan Refusal → Framed × List Float
   led_as v = framed_with (renamed hz d) f.numerators f.denominators f.samples v
 
-  abbrev Same : Verdict → Verdict → Type 0
+  abbrev Same : Result Plan Refusal → Result Plan Refusal → Type 0
   Same v w = led_as v ≡ (framed_as_lem hz (led w).0, (led w).1)
 
-  tested : (b : Bool) (answer : Answer) (v w : Verdict) → Same v w → Same (unless b answer v) (unless b answer w)
-  tested true answer v w e = e
-  tested false answer v w e = refl
+  tested : (b : Bool) (refusal : Refusal) (v w : Result Plan Refusal) → Same v w → Same (unless b refusal v) (unless b refusal w)
+  tested true refusal v w e = e
+  tested false refusal v w e = refl
 
   accepted_as_lem : (c : Lc3Config) (lag : Lag) →
-      Same (Accepted (plan_of (renamed hz d).registers.marks (config_as hz c) f.side lag)) (Accepted (plan_of d.registers.marks c f.side lag))
+      Same (Ok (plan_of (renamed hz d).registers.marks (config_as hz c) f.side lag)) (Ok (plan_of d.registers.marks c f.side lag))
   unfolding accepted filtered next_marks
   accepted_as_lem c lag = refl
 
@@ -92,18 +88,18 @@ module _ (hz : ℕ) (d : Decoder) (f : Given) where
   unfolding judged_side
   side_as c = rw (lag_for_as hz c.fs f.side.pitch) (go (leb f.side.nbits 3200) (lag_for c.fs f.side.pitch))
     where
-      go : (b : Bool) (l : FoundLag) →
+      go : (b : Bool) (l : Option Lag) →
           Same (ranged (all_in_range f.samples) (unless b TooManyBits (lag_judged (renamed hz d).registers.marks (config_as hz c) f.side l)))
           (ranged (all_in_range f.samples) (unless b TooManyBits (lag_judged d.registers.marks c f.side l)))
       go false l = refl
-      go true FoundLag.IndexTooLarge = refl
-      go true (FoundLag.Lag lag) = tested (all_in_range f.samples) SampleOutOfRange _ _ (accepted_as_lem c lag)
+      go true None = refl
+      go true (Some lag) = tested (all_in_range f.samples) SampleOutOfRange _ _ (accepted_as_lem c lag)
 
-  judged_as : (k : Configured) → Same (judged (renamed hz d).registers.marks (configured_as hz k) f.numerators f.denominators f.side f.samples)
+  judged_as : (k : Result Lc3Config Refusal) → Same (judged (renamed hz d).registers.marks (configured_as hz k) f.numerators f.denominators f.side f.samples)
       (judged d.registers.marks k f.numerators f.denominators f.side f.samples)
   unfolding judged
-  judged_as (Refused answer) = refl
-  judged_as (Config c) =
+  judged_as (Err refusal) = refl
+  judged_as (Ok c) =
       tested (set_counts c.fs.l_den f.numerators f.denominators) CoefficientCount _ _
       (tested (set_finite f.numerators f.denominators) CoefficientNotFinite _ _
       (tested (eqb (length f.samples) c.nf) SampleCount _ _ (side_as c)))
@@ -118,6 +114,6 @@ module _ (hz : ℕ) (d : Decoder) (same : config_of hz d.registers.marks.duratio
   unfolding lost_from
   lost_renamed = rw (fit_as_lem hz d same) (go (fit_decoder d))
     where
-      go : (k : Configured) → lost_with (renamed hz d) (configured_as hz k) ≡ framed_as_lem hz (lost_with d k)
-      go (Refused answer) = refl
-      go (Config c) = refl
+      go : (k : Result Lc3Config Refusal) → lost_with (renamed hz d) (configured_as hz k) ≡ framed_as_lem hz (lost_with d k)
+      go (Err refusal) = refl
+      go (Ok c) = refl

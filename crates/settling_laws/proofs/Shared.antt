@@ -29,7 +29,7 @@ events_happen c d s [] = refl
 events_happen c d s (f ∷ earlier) = rw (event_judged c f (after_all d (map frame earlier)) (frames_fit c d s earlier), events_happen c d s earlier)
 
 happened_since : (c : Lc3Config) (f : Given) (o : OutcomeOf c f) (es : List Event) → since (happened c f o ∷ es) ≡ happened c f o ∷ since es
-happened_since c f (declined answer l h) es = refl
+happened_since c f (declined why l h) es = refl
 happened_since c f (passed lag p) es = go (is_active f.side.pitch)
   where
     go : (b : Bool) → since (cond b active (quiet f.samples) ∷ es) ≡ cond b active (quiet f.samples) ∷ since es

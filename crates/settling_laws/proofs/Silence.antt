@@ -8,6 +8,7 @@ use borrow.Author.Tests.{eq-eqb}
 use lib.Ieee.{Float, nan, neg, round, of_int, le, lt, eq}
 use lib.ListN.{length, replicate, length-replicate, get_or-append}
 use lib.Seq.{get_or-drop}
+use Rattle.std.proofs.Common.{Some}
 use Rattle.floats.specs.Single.{0·0, at, all_finite, in_range, all_in_range}
 use Rattle.rates.specs.declared.table.Rate.{Rate}
 use Rattle.rates.specs.declared.config.Lc3Config.{Lc3Config}
@@ -17,7 +18,6 @@ use Rattle.lag.specs.Gain.{gain_of, bits_of}
 use Rattle.lag.specs.declared.pitch.PitchRecord.{PitchRecord}
 use Rattle.lag.specs.declared.pitch.PitchRecord.TheVariants.{Absent, Present}
 use Rattle.lag.specs.declared.rescale.Lag.{Lag}
-use Rattle.lag.specs.declared.rescale.FoundLag.{FoundLag}
 use Rattle.coefficients.specs.Coefficients.{new_filter, Filter}
 use Rattle.filter.specs.Fade.{faded, grow}
 use Rattle.filter.specs.Transition.{transition_of, outputs, case_activated}
@@ -72,7 +72,7 @@ silence c pitch = record {
 }
 
 -- every fit state accepts it
-silence_done : (c : Lc3Config) (d : Decoder) → FitState c d → (pitch : PitchRecord) (lag : Lag) → lag_for c.fs pitch ≡ FoundLag.Lag lag →
+silence_done : (c : Lc3Config) (d : Decoder) → FitState c d → (pitch : PitchRecord) (lag : Lag) → lag_for c.fs pitch ≡ Some lag →
     framed_by d (silence c pitch) ≡
     done (accepted d (plan_of d.registers.marks c (silence c pitch).side lag) (silence c pitch).numerators (silence c pitch).denominators (silence c pitch).samples)
 unfolding framed judged judged_side

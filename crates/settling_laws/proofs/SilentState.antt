@@ -8,13 +8,12 @@ use lib.Dec.{ltb}
 use lib.Ieee.{Float, nan, mul, round}
 use lib.ListN.{length, replicate, get_or-replicate}
 use lib.Seq.{get_or-take}
+use Rattle.std.proofs.Common.{Option, None, Ok}
 use Rattle.floats.specs.Single.{◌⊖◌, ◌⊗◌, 0·0, at, decimal}
 use Rattle.rates.specs.Configs.{config_of}
 use Rattle.rates.specs.declared.config.Lc3Config.{Lc3Config}
-use Rattle.rates.specs.declared.config.Configured.TheVariants.{Config}
-use Rattle.lag.specs.Gain.{gain_of, bits_of, hundredths}
+use Rattle.lag.specs.Gain.{gain_of, bits_of, on}
 use Rattle.lag.specs.declared.gain.Gain.{Gain}
-use Rattle.lag.specs.declared.gain.Gain.TheVariants.{Off, On}
 use Rattle.coefficients.specs.Coefficients.{gain_value, filter_of, new_filter}
 use Rattle.filter.specs.Fade.{factor, faded}
 use Rattle.filter.specs.declared.fade.Direction.TheVariants.{In}
@@ -45,7 +44,7 @@ at_past : (ring : List Float) (history i : ℕ) → i < history → at (straight
 unfolding straight
 at_past ring history i h = rw append-nil (get_or-take (history - 0) ring i nan (omega arith))
 
-pub silent_start : (rate duration : ℕ) (c : Lc3Config) → config_of rate duration ≡ Config c → Silent c (cleared rate duration)
+pub silent_start : (rate duration : ℕ) (c : Lc3Config) → config_of rate duration ≡ Ok c → Silent c (cleared rate duration)
 unfolding cleared cleared_marks
 silent_start rate duration c e =
     let z = sized c (from_table rate duration c e) in
@@ -74,8 +73,8 @@ gain_zero : (i t : ℕ) → (gain_value (gain_of i t) ⊗ 0·0 ≡ 0·0) × (dec
 unfolding gain_of mul round
 gain_zero i t = go (ltb t (320 + 80 * i)) (ltb t (400 + 80 * i)) (ltb t (480 + 80 * i)) (ltb t (560 + 80 * i))
   where
-    gain : Bool → Bool → Bool → Bool → Gain
-    gain a b c d = cond a (On (hundredths 40) 0) (cond b (On (hundredths 35) 1) (cond c (On (hundredths 30) 2) (cond d (On (hundredths 25) 3) Off)))
+    gain : Bool → Bool → Bool → Bool → Option Gain
+    gain a b c d = cond a (on 40 0) (cond b (on 35 1) (cond c (on 30 2) (cond d (on 25 3) None)))
 
     go : (a b c d : Bool) → (gain_value (gain a b c d) ⊗ 0·0 ≡ 0·0) × (decimal 85 2 ⊗ gain_value (gain a b c d) ⊗ 0·0 ≡ 0·0)
     go true b c d = (refl, refl)

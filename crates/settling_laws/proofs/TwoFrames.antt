@@ -8,13 +8,12 @@ use mathlib.Core.Bool.{not}
 use mathlib.Core.List.{List, [], ◌∷◌}
 use lib.Dec.{T}
 use lib.Ieee.{Float, nan, add, sub, mul, div, neg, round, of_int, sum, is_nan}
+use Rattle.std.proofs.Common.{Some, Ok}
 use Rattle.floats.specs.Single.{◌⊖◌, ◌⊗◌, 0·0, at}
 use Rattle.rates.specs.Table.{row_of}
 use Rattle.rates.specs.Configs.{config_of}
 use Rattle.rates.specs.declared.table.Rate.{Rate}
-use Rattle.rates.specs.declared.table.FoundRate.TheVariants.{Row}
 use Rattle.rates.specs.declared.config.Lc3Config.{Lc3Config}
-use Rattle.rates.specs.declared.config.Configured.TheVariants.{Config}
 use Rattle.rates.proofs.Rows.{at_row}
 use Rattle.lag.specs.declared.pitch.PitchRecord.TheVariants.{Absent}
 use Rattle.filter.specs.Fade.{factor}
@@ -32,7 +31,7 @@ use Rattle.settling_laws.proofs.SilentState.{silent_start, silent_next, silent_f
 use Rattle.settling_laws.proofs.NoisyState.{noisy, noisy_fit, noisy_past, noisy_active, noisy_first}
 
 -- a fade of 0.0 begins with a number at every rate
-number_first : (hz : ℕ) (fs : Rate) → row_of hz ≡ Row fs → T (not (is_nan (0·0 ⊖ 0·0 ⊗ factor In fs.fade 0)))
+number_first : (hz : ℕ) (fs : Rate) → row_of hz ≡ Some fs → T (not (is_nan (0·0 ⊖ 0·0 ⊗ factor In fs.fade 0)))
 unfolding factor sub add neg mul div sum round of_int is_nan
 number_first hz fs k = at_row (λ (r : Rate). not (is_nan (0·0 ⊖ 0·0 ⊗ factor In r.fade 0))) tt hz fs k
 
@@ -70,7 +69,7 @@ number : (v : Float) → T (not (is_nan v)) → v ≡ nan → ⊥
 unfolding is_nan
 number v t e = subst (λ (w : Float). T (not (is_nan w))) e t
 
-pub two_frames_disagree : (rate duration : ℕ) (c : Lc3Config) → config_of rate duration ≡ Config c → Disagree rate duration
+pub two_frames_disagree : (rate duration : ℕ) (c : Lc3Config) → config_of rate duration ≡ Ok c → Disagree rate duration
 unfolding cleared cleared_marks next_marks
 two_frames_disagree rate duration c e =
     let a = cleared rate duration in

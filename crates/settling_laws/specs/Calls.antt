@@ -1,11 +1,9 @@
 -- Calls of a decoder one after the other, what each gives back, and what each was to the decoder. Lists of them have the latest first.
-use Rattle.std.specs.Prelude.{ℕ, ◌+◌, max, ◌≡◌, Bool, true, false, cond, List, [], ◌∷◌, leb, eqb, Float, length}
+use Rattle.std.specs.Prelude.{ℕ, ◌+◌, max, ◌≡◌, Bool, true, false, cond, List, [], ◌∷◌, leb, eqb, Float, length, Ok}
 use Rattle.call_laws.specs.Engine as engine
 use Rattle.call_laws.specs.Engine.{Engine}
-use Rattle.rates.specs.Answers.{number_of}
-use Rattle.rates.specs.declared.answer.Answer.{Answer}
+use Rattle.rates.specs.Answers.{number_of, Answer}
 use Rattle.rates.specs.declared.config.Lc3Config.{Lc3Config}
-use Rattle.rates.specs.declared.config.Configured.TheVariants.{Config}
 use Rattle.lag.specs.declared.pitch.PitchRecord.{PitchRecord}
 use Rattle.judging.specs.Pitch.{is_active}
 use Rattle.control.specs.State.{settled_limit}
@@ -152,7 +150,7 @@ heard (refusal ∷ es) = heard es
 
 -- a fit state of a configuration; its rings are arrays of 1,080 samples
 pub record FitState (c : Lc3Config) (d : Decoder) : Type 0 where
-  pub found : fit_decoder d ≡ Config c
+  pub found : fit_decoder d ≡ Ok c
   pub inputs : length d.x_hat_mem ≡ 1080
   pub outputs : length d.x_hat_ltpf_mem ≡ 1080
 

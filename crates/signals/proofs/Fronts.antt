@@ -16,6 +16,10 @@ pub front : (x past : List Float) (n : ℕ) → length past ≡ n → n ≤ leng
 front x past n l h =
     placed_written x past 0 (omega arith) ∙ ap (written x 0 _) l ∙ written_same x 0 _ (window past 0) n (λ k b. rw zero-add)
 
+-- the array that it was put into
+pub fronted : (x past r : List Float) (n : ℕ) → length past ≡ n → n ≤ length x → r ≡ placed x 0 past → r ≡ written x 0 (window past 0) n
+fronted x past r n l h e = e ∙ front x past n l h
+
 pub part : (l x : List Float) (start n m : ℕ) → m ≡ n → start + n ≤ length x → n ≤ length l → placed l 0 (take m (drop start x)) ≡ written l 0 (window x start) n
 part l x start n m e h k =
     let long : length (take m (drop start x)) ≡ n = simp (length-take, length-drop) (omega arith) in

@@ -21,6 +21,7 @@ pub(crate) fn halve(x: &[f32; 404], start: usize, out: &mut [f32; 178], len6p4: 
     requires len6p4_bound { len6p4 ≤ 64 }
     ensures { out.new ≡ written out.old 114 (halved x.now start) len6p4 }
 {
+    // by index: a turn reads five entries and writes another
     for m in 0..len6p4 {
         out[114 + m] = five_taps(x, start - 3 + 2 * m);
     }

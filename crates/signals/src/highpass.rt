@@ -16,8 +16,11 @@ pub(crate) fn high_pass(h: HighPass, x: &mut [f32; 404], len12p8: usize) -> High
     ensures after { result ≡ memories h (window x.old 276) len12p8 }
     ensures signal { x.new ≡ high_passed h x.old len12p8 }
 {
-    let mut h50_minus1 = h.h50_minus1;
-    let mut h50_minus2 = h.h50_minus2;
+    let HighPass {
+        mut h50_minus1,
+        mut h50_minus2,
+    } = h;
+    // by index: what is written through a borrowed entry no proof would know
     for n in 0..len12p8 {
         let h50 = x[276 + n] - -1.9652933726226904 * h50_minus1 - 0.9658854605688177 * h50_minus2;
         x[276 + n] = 0.9827947082978771 * h50

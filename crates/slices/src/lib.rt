@@ -1,28 +1,22 @@
-// A block of samples copied into a slice.
+// Where a block fits into a slice, and its copy there.
 #![tactic(auto)]
 
-ghost use Rattle.std.specs.Prelude.{◌≡◌, ◌+◌, ◌≤◌, length};
-ghost use Rattle.slices.specs.Slices.{stored, placed};
+ghost use Rattle.std.specs.Prelude.{◌≡◌, ◌+◌, leb, length};
+ghost use Rattle.slices.specs.Slices.{placed};
 
-// Copies a block that fits.
-fn copy(into: &mut [f32], at: usize, block: &[f32])
-    requires { at + length block.now ≤ length into.old }
-    ensures { into.new ≡ stored into.old at block.now }
+// Whether a slice has n entries from `at` on. No sum is made that could wrap.
+pub fn fits<T>(s: &[T], at: usize, n: usize) -> bool
+    ensures { result ≡ leb (at + n) (length s.now) }
 {
-    for i in 0..block.len() {
-        into[at + i] = block[i];
-    }
+    n <= s.len() && at <= s.len() - n
 }
 
 // Copies a block into a slice, from `at` on. Where it does not fit, nothing is copied.
-pub fn put(into: &mut [f32], at: usize, block: &[f32])
+#[tactic(auto, unfolding(crate::specs::Slices::stored, crate::specs::Slices::placed))]
+pub fn put<T: Copy>(into: &mut [T], at: usize, block: &[T])
     ensures { into.new ≡ placed into.old at block.now }
 {
-    if block.len() > into.len() {
-        return;
+    if fits(into, at, block.len()) {
+        into[at..at + block.len()].copy_from_slice(block);
     }
-    if at > into.len() - block.len() {
-        return;
-    }
-    copy(into, at, block);
 }

@@ -1,50 +1,47 @@
 -- THE TOLD PLAN. `frame_agrees`: the verdict on a frame, with any set and samples, is a refusal with another answer than 0, or accepts the plan that
 -- is told.
-use mathlib.Core.Path.{◌≡◌, refl}
+use Rattle.lag.specs.declared.rescale.Lag.{Lag}
+use Rattle.rates.specs.declared.answer.Refusal.{Refusal}
+use Rattle.std.proofs.Common.{Option, Some, None, Result, Ok, Err}
+use mathlib.Core.Path.{◌≡◌}
 use mathlib.Core.Bool.{Bool, true, false}
 use mathlib.Core.List.{List}
-use native.Mathlib.Omega.{arith}
 use lib.Dec.{leb}
 use lib.Ieee.{Float}
 use Rattle.floats.specs.Single.{all_in_range}
-use Rattle.rates.specs.Answers.{number_of}
-use Rattle.rates.specs.declared.answer.Answer.{Answer}
-use Rattle.rates.specs.declared.answer.Answer.TheVariants.{CoefficientCount, CoefficientNotFinite, SampleCount, TooManyBits, IndexTooLarge, SampleOutOfRange}
+use Rattle.rates.specs.Answers.{refusal_number}
+use Rattle.rates.specs.declared.answer.Refusal.TheVariants.{CoefficientCount, CoefficientNotFinite, SampleCount, TooManyBits, IndexTooLarge, SampleOutOfRange}
 use Rattle.rates.specs.declared.config.Lc3Config.{Lc3Config}
-use Rattle.rates.specs.declared.config.Configured.{Configured}
-use Rattle.lag.specs.declared.rescale.FoundLag.{FoundLag}
+use Rattle.rates.proofs.Refusals.{never_done}
 use Rattle.control.specs.declared.marks.Marks.{Marks}
 use Rattle.judging.specs.Pitch.{lag_for}
-use Rattle.judging.specs.Judge.{unless, set_counts, set_finite, lag_judged, judged_side, ranged, judged_frame}
+use Rattle.judging.specs.Judge.{unless, set_counts, set_finite, plan_of, lag_judged, judged_side, ranged, judged_frame}
 use Rattle.judging.specs.declared.plan.SideInfo.{SideInfo}
 use Rattle.judging.specs.declared.plan.Plan.{Plan}
-use Rattle.judging.specs.declared.plan.Verdict.{Verdict}
-use Rattle.judging.specs.declared.plan.Verdict.TheVariants.{Refused, Accepted}
 use Rattle.telling.specs.Told.{judged_fitted}
 
 -- a verdict, beside the one that is told
-pub data Agree : Verdict → Verdict → Type 0 where
-  refused : {told : Verdict} (answer : Answer) → (number_of answer ≡ 0 → ⊥) → Agree (Refused answer) told
-  accepted : (plan : Plan) → Agree (Accepted plan) (Accepted plan)
+pub data Agree : Result Plan Refusal → Result Plan Refusal → Type 0 where
+  refused : {told : Result Plan Refusal} (refusal : Refusal) → (refusal_number refusal ≡ 0 → ⊥) → Agree (Err refusal) told
+  accepted : (plan : Plan) → Agree (Ok plan) (Ok plan)
 
-unless_agrees : {v told : Verdict} (b : Bool) (answer : Answer) → (number_of answer ≡ 0 → ⊥) → Agree v told → Agree (unless b answer v) told
-unless_agrees true answer h a = a
-unless_agrees false answer h a = refused answer h
+unless_agrees : {v told : Result Plan Refusal} (b : Bool) (refusal : Refusal) → Agree v told → Agree (unless b refusal v) told
+unless_agrees true refusal a = a
+unless_agrees false refusal a = refused refusal (never_done refusal)
 
 side_agrees : (m : Marks) (c : Lc3Config) (side : SideInfo) (inside : Bool) → Agree (ranged inside (judged_side m c side)) (judged_side m c side)
 unfolding judged_side
 side_agrees m c side inside = go (leb side.nbits 3200) (lag_for c.fs side.pitch)
   where
-    go : (b : Bool) (l : FoundLag) → let v = unless b TooManyBits (lag_judged m c side l) in Agree (ranged inside v) v
-    go false l = refused TooManyBits (λ e. omega arith)
-    go true FoundLag.IndexTooLarge = refused IndexTooLarge (λ e. omega arith)
-    go true (FoundLag.Lag lag) = unless_agrees inside SampleOutOfRange (λ e. omega arith) (accepted _)
+    go : (b : Bool) (l : Option Lag) → let v = unless b TooManyBits (lag_judged m c side l) in Agree (ranged inside v) v
+    go false l = refused TooManyBits (never_done TooManyBits)
+    go true None = refused IndexTooLarge (never_done IndexTooLarge)
+    go true (Some lag) = unless_agrees inside SampleOutOfRange (accepted (plan_of m c side lag))
 
-pub frame_agrees : (m : Marks) (numerators denominators : List Float) (side : SideInfo) (full : Lc3Config → Bool) (samples : List Float) (k : Configured) →
-    ((answer : Answer) → k ≡ Configured.Refused answer → number_of answer ≡ 0 → ⊥) →
+pub frame_agrees : (m : Marks) (numerators denominators : List Float) (side : SideInfo) (full : Lc3Config → Bool) (samples : List Float) (k : Result Lc3Config Refusal) →
     Agree (judged_frame m numerators denominators side full samples k) (judged_fitted m side k)
-frame_agrees m numerators denominators side full samples (Configured.Refused answer) h = refused answer (h answer refl)
-frame_agrees m numerators denominators side full samples (Configured.Config c) h =
-    unless_agrees (set_counts c.fs.l_den numerators denominators) CoefficientCount (λ e. omega arith)
-    (unless_agrees (set_finite numerators denominators) CoefficientNotFinite (λ e. omega arith)
-    (unless_agrees (full c) SampleCount (λ e. omega arith) (side_agrees m c side (all_in_range samples))))
+frame_agrees m numerators denominators side full samples (Err refusal) = refused refusal (never_done refusal)
+frame_agrees m numerators denominators side full samples (Ok c) =
+    unless_agrees (set_counts c.fs.l_den numerators denominators) CoefficientCount
+    (unless_agrees (set_finite numerators denominators) CoefficientNotFinite
+    (unless_agrees (full c) SampleCount (side_agrees m c side (all_in_range samples))))

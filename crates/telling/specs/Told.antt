@@ -1,6 +1,7 @@
 -- What a frame is going to do, as its side information and the marks decide it. Samples and coefficients decide none of this.
-use Rattle.std.specs.Prelude.{ℕ}
-use Rattle.rates.specs.declared.config.Configured.{Configured}
+use Rattle.rates.specs.declared.answer.Refusal.{Refusal}
+use Rattle.rates.specs.declared.config.Lc3Config.{Lc3Config}
+use Rattle.std.specs.Prelude.{ℕ, Result, Ok, Err}
 use Rattle.lag.specs.declared.pitch.PitchRecord.{PitchRecord}
 use Rattle.filter.specs.declared.transition.Transition.{Transition}
 use Rattle.filter.specs.declared.transition.Transition.TheVariants.{Inactive, Activated, Deactivated, ActiveNoPitchChange, ActivePitchChanged}
@@ -8,7 +9,6 @@ use Rattle.control.specs.declared.marks.Marks.{Marks}
 use Rattle.judging.specs.Judge.{judged_side}
 use Rattle.judging.specs.declared.plan.SideInfo.{SideInfo}
 use Rattle.judging.specs.declared.plan.Plan.{Plan}
-use Rattle.judging.specs.declared.plan.Verdict.{Verdict}
 use Rattle.telling.specs.Roundings.{rounding_for}
 use Rattle.telling.specs.declared.told.Told.{Told}
 
@@ -21,9 +21,9 @@ case_number ActiveNoPitchChange = 4
 case_number ActivePitchChanged = 5
 
 -- 9, which fitness decided; then 6 and 7
-abbrev pub judged_fitted : Marks → SideInfo → Configured → Verdict
-judged_fitted m side (Configured.Refused answer) = Verdict.Refused answer
-judged_fitted m side (Configured.Config c) = judged_side m c side
+abbrev pub judged_fitted : Marks → SideInfo → Result Lc3Config Refusal → Result Plan Refusal
+judged_fitted m side (Err answer) = Err answer
+judged_fitted m side (Ok c) = judged_side m c side
 
 -- what a plan tells, and how the lag of its frame's pitch was rounded
 abbrev pub told_of : Plan → PitchRecord → Told

@@ -2,14 +2,15 @@
 ghost use Rattle.std.specs.Prelude.{◌≡◌};
 ghost use Rattle.telling.specs.Told.{case_number, judged_fitted, told_of};
 
-use crate::rounding::{Rounding, rounding_for};
+use crate::rounding::rounding_for;
 use control::marks::Marks;
 use filter::transition::Transition;
-use judging::plan::{Plan, SideInfo, Verdict, judge_side};
+use judging::plan::{Plan, SideInfo, judge_side};
 use lag::gain::Gain;
 use lag::pitch::PitchRecord;
 use lag::rescale::Lag;
-use rates::config::Configured;
+use rates::answer::Refusal;
+use rates::config::Lc3Config;
 
 // What an accepted frame is going to do: its case, whether it is active, its lag, its gain, and how the lag was rounded.
 #[derive(Clone, Copy)]
@@ -17,11 +18,11 @@ pub struct Told {
     pub transition: Transition,
     pub active: bool,
     pub lag: Lag,
-    pub gain: Gain,
-    pub rounding: Rounding,
+    pub gain: Option<Gain>,
+    pub rounding: Option<i32>,
 }
 
-// The number of a case.
+// The number of a case, as docs/SCOPE.md counts them. Only what is told has it: nothing is computed by it.
 pub fn case_number(transition: Transition) -> u32
     ensures { result ≡ case_number transition }
 {
@@ -35,29 +36,25 @@ pub fn case_number(transition: Transition) -> u32
 }
 
 // The verdict of a decoder on a frame whose set and samples are good, by what its fitness came to.
-pub fn judge_fitted(marks: Marks, fitted: Configured, side: SideInfo) -> Verdict
+pub fn judge_fitted(
+    marks: Marks,
+    fitted: Result<Lc3Config, Refusal>,
+    side: SideInfo,
+) -> Result<Plan, Refusal>
     ensures { result ≡ judged_fitted marks side fitted }
 {
-    match fitted {
-        Configured::Config(config) => judge_side(marks, config, side),
-        Configured::Refused(answer) => Verdict::Refused(answer),
-    }
+    judge_side(marks, fitted?, side)
 }
 
 // What a plan tells of its frame, whose pitch is this one.
 pub fn told_of(plan: Plan, pitch: PitchRecord) -> Told
     ensures { result ≡ told_of plan pitch }
 {
-    let config = plan.config;
-    let fs = config.fs;
-    let transition = plan.transition;
-    let lag = plan.lag;
-    let gain = plan.gain;
     Told {
-        transition,
+        transition: plan.transition,
         active: plan.active,
-        lag,
-        gain,
-        rounding: rounding_for(fs, pitch),
+        lag: plan.lag,
+        gain: plan.gain,
+        rounding: rounding_for(plan.config.fs, pitch),
     }
 }

@@ -1,15 +1,13 @@
 // The encoder's frames: each is read, encoded and compared.
+use crate::stop::Stop;
 use crate::tally::{Place, Tally};
 use arguments::inputs::Reader;
 use encoder::frame::Framed;
 use encoder::state::{Encoder, start};
-use lag::pitch::{PitchRecord, Sent, sent_of};
-use outcome::Outcome;
 use published::{CORRELATION_INTERPOLATION, RESAMPLING, SIGNAL_INTERPOLATION};
-use rates::answer::number;
-use std::num::wrapping_add_u32;
-use vectors::part::first_signed;
-use vectors::read::{Floats, Number, Samples, read_floats, read_number, read_samples};
+use vectors::part::Numbers;
+use vectors::pitch::numbers_of;
+use vectors::read::{read_number, read_numbers};
 
 // How near the signal at 12.8 kHz, whose full scale is 32768, and the activation's correlation must come.
 // docs/APPENDIX_C.md says why.
@@ -17,217 +15,140 @@ const SIGNAL: f32 = 2.0;
 
 const CORRELATION: f32 = 0.000001;
 
-// The encoder, how many frames it has had, and the tally.
+// The encoder, and how many frames it has had.
 #[derive(Clone, Copy)]
 pub struct Encoding {
-    pub encoder: Encoder,
-    pub frames: u32,
-    pub tally: Tally,
+    encoder: Encoder,
+    frames: u32,
 }
 
 // What goes into a frame.
 #[derive(Clone, Copy)]
-pub struct Given {
-    pub near_nyquist: Number,
-    pub nbits: Number,
-    pub samples: Samples,
+struct Given {
+    near_nyquist: bool,
+    nbits: u32,
+    samples: Numbers<i16>,
 }
 
 // What is published of a frame.
 #[derive(Clone, Copy)]
-pub struct Expected {
-    pub whole: bool,
-    pub present: Number,
-    pub index: Number,
-    pub active: Number,
-    pub t_curr: Number,
-    pub nc_ltpf: Floats,
-    pub signal: Floats,
+struct Expected {
+    pitch: [u32; 3],
+    t_curr: u32,
+    nc_ltpf: Numbers<f32>,
+    signal: Numbers<f32>,
 }
 
-// A pitch record as it is published: the index and the active mark are 0 where there is no pitch.
-#[derive(Clone, Copy)]
-pub struct Numbers {
-    pub present: u64,
-    pub index: u64,
-    pub active: u64,
-}
-
-// An encoder that has had no frame, and nothing tallied.
-pub(crate) fn begin(rt: &HostRuntime, outcome: &Outcome) -> Encoding {
-    let started = start(16000, 10000);
-    let encoder = started.encoder;
-    Encoding {
-        encoder,
-        frames: 0,
-        tally: Tally::new(rt, outcome),
+impl Given {
+    fn read(reader: &mut Reader<'_>) -> Option<Given> {
+        let near_nyquist = read_number(reader, 1)? != 0;
+        let nbits = read_number(reader, 4)?;
+        let count = read_number(reader, 2)?;
+        Some(Given {
+            near_nyquist,
+            nbits,
+            samples: read_numbers(reader, count as usize)?,
+        })
     }
-}
-
-// The same with another tally.
-pub(crate) fn with_tally(encoding: Encoding, tally: Tally) -> Encoding {
-    let mut next = encoding;
-    next.tally = tally;
-    next
-}
-
-// The same, whose file is compared no further.
-pub(crate) fn stopped(encoding: Encoding, why: &str) -> Encoding {
-    let tally = encoding.tally;
-    with_tally(encoding, tally.stop(why))
-}
-
-// Starts the encoder: a rate and a duration go in.
-pub(crate) fn start_encoder(reader: &mut Reader<'_>, encoding: Encoding) -> Encoding {
-    let rate = read_number(reader, 4);
-    let duration = read_number(reader, 4);
-    if !duration.whole {
-        return stopped(encoding, "a start that is cut off");
-    }
-    let started = start(rate.value, duration.value);
-    let answer = started.answer;
-    if number(answer) != 0 {
-        return stopped(encoding, "a start that is refused");
-    }
-    let encoder = started.encoder;
-    let tally = encoding.tally;
-    Encoding {
-        encoder,
-        frames: 0,
-        tally,
-    }
-}
-
-fn read_given(reader: &mut Reader<'_>) -> Given {
-    let near_nyquist = read_number(reader, 1);
-    let nbits = read_number(reader, 4);
-    let count = read_number(reader, 2);
-    Given {
-        near_nyquist,
-        nbits,
-        samples: read_samples(reader, count.value as usize),
-    }
-}
-
-fn read_expected(reader: &mut Reader<'_>) -> Expected {
-    let present = read_number(reader, 1);
-    let index = read_number(reader, 4);
-    let active = read_number(reader, 1);
-    let t_curr = read_number(reader, 4);
-    let nc_ltpf = read_floats(reader, 1);
-    let count = read_number(reader, 2);
-    let signal = read_floats(reader, count.value as usize);
-    Expected {
-        whole: count.whole && signal.whole,
-        present,
-        index,
-        active,
-        t_curr,
-        nc_ltpf,
-        signal,
-    }
-}
-
-// Encodes a frame with the published tables.
-fn encode(encoder: Encoder, given: Given) -> Framed {
-    let read = given.samples;
-    let samples = read.values;
-    encoder.frame(
-        &RESAMPLING,
-        &CORRELATION_INTERPOLATION,
-        &SIGNAL_INTERPOLATION,
-        first_signed(&samples, read.count),
-        given.nbits.value,
-        given.near_nyquist.value != 0,
-    )
-}
-
-fn as_numbers(pitch: PitchRecord) -> Numbers {
-    match sent_of(pitch) {
-        Sent::Absent => Numbers {
-            present: 0,
-            index: 0,
-            active: 0,
-        },
-        Sent::Present(found) => Numbers {
-            present: 1,
-            index: found.index as u64,
-            active: found.active as u64,
-        },
-    }
-}
-
-// Compares the pitch record.
-fn compare_pitch(tally: Tally, expected: Expected, got: Numbers) -> Tally {
-    let one = tally.number("pitch_present", expected.present, got.present);
-    let two = one.number("pitch_index", expected.index, got.index);
-    two.number("ltpf_active", expected.active, got.active)
 }
 
 // What is published of the signal at 12.8 kHz: the delayed frame and one sample more. In the 276 samples
 // that are kept it starts 24 or 44 before the new ones of the frame, which are 128 or 96.
 fn delayed(kept: &[f32; 276], duration: u32) -> &[f32] {
-    let all: &[f32] = kept;
     if duration == 7500 {
-        &all[136..233]
+        &kept[136..233]
     } else {
-        &all[124..253]
+        &kept[124..253]
     }
 }
 
-// Compares that signal.
-fn compare_signal(tally: Tally, expected: Floats, encoder: Encoder) -> Tally {
-    let kept = encoder.x_12p8;
-    tally.floats(
-        "x_tilde_12k8d",
-        expected,
-        delayed(&kept, encoder.duration),
-        SIGNAL,
-    )
-}
+impl Expected {
+    fn read(reader: &mut Reader<'_>) -> Option<Expected> {
+        let pitch = [
+            read_number(reader, 1)?,
+            read_number(reader, 4)?,
+            read_number(reader, 1)?,
+        ];
+        let t_curr = read_number(reader, 4)?;
+        let nc_ltpf = read_numbers(reader, 1)?;
+        let count = read_number(reader, 2)?;
+        Some(Expected {
+            pitch,
+            t_curr,
+            nc_ltpf,
+            signal: read_numbers(reader, count as usize)?,
+        })
+    }
 
-// Compares the activation's correlation, which the encoder remembers.
-fn compare_correlation(tally: Tally, expected: Floats, encoder: Encoder) -> Tally {
-    let memory = encoder.memory;
-    let kept = [memory.mem_nc; 1];
-    tally.floats("nc_ltpf", expected, &kept, CORRELATION)
-}
-
-// Compares all that is published of a frame and that shows.
-fn compare_frame(tally: Tally, expected: Expected, encoder: Encoder, pitch: PitchRecord) -> Tally {
-    let one = compare_signal(tally, expected.signal, encoder);
-    let two = one.number("t_curr", expected.t_curr, encoder.t_prev as u64);
-    let three = compare_pitch(two, expected, as_numbers(pitch));
-    compare_correlation(three, expected.nc_ltpf, encoder)
-}
-
-// The encoding after a frame, which is compared at its place.
-fn after(encoding: Encoding, expected: Expected, framed: Framed) -> Encoding {
-    let tally = encoding.tally;
-    let encoder = framed.encoder;
-    let pitch = framed.pitch;
-    let place = Place::Frame {
-        duration: encoder.duration,
-        number: encoding.frames,
-    };
-    Encoding {
-        encoder,
-        frames: wrapping_add_u32(encoding.frames, 1),
-        tally: compare_frame(tally.at(place), expected, encoder, pitch),
+    // Compares all that is published of a frame and that shows: the signal, the pitch, and the activation's
+    // correlation, which the encoder remembers.
+    fn compare(&self, tally: &mut Tally, framed: &Framed) {
+        let encoder = &framed.encoder;
+        let signal = delayed(&encoder.x_12p8, encoder.duration);
+        tally.floats("x_tilde_12k8d", &self.signal, signal, SIGNAL);
+        tally.number("t_curr", self.t_curr, encoder.t_prev as u64);
+        let names = ["pitch_present", "pitch_index", "ltpf_active"];
+        for ((name, expected), got) in names.iter().zip(self.pitch).zip(numbers_of(framed.pitch)) {
+            tally.number(name, expected, u64::from(got));
+        }
+        let correlation = [encoder.memory.mem_nc];
+        tally.floats("nc_ltpf", &self.nc_ltpf, &correlation, CORRELATION);
     }
 }
 
-// A frame: it goes through the encoder, and what is published of it is compared.
-pub(crate) fn next_frame(reader: &mut Reader<'_>, encoding: Encoding) -> Encoding {
-    let given = read_given(reader);
-    let expected = read_expected(reader);
-    if !given.samples.whole || !expected.whole {
-        return stopped(encoding, "a frame that is cut off or too long");
+// Reads a rate and a duration.
+fn read_start(reader: &mut Reader<'_>) -> Option<(u32, u32)> {
+    Some((read_number(reader, 4)?, read_number(reader, 4)?))
+}
+
+impl Encoding {
+    // An encoder that has had no frame.
+    pub(crate) fn new() -> Encoding {
+        Encoding {
+            encoder: start(16000, 10000).encoder,
+            frames: 0,
+        }
     }
-    let framed = encode(encoding.encoder, given);
-    let answer = framed.answer;
-    if number(answer) != 0 {
-        return stopped(encoding, "a frame that is refused");
+
+    // Starts the encoder: a rate and a duration go in.
+    pub(crate) fn start(&mut self, reader: &mut Reader<'_>) -> Result<(), Stop> {
+        let (rate, duration) = read_start(reader).ok_or(Stop::StartCutOff)?;
+        let started = start(rate, duration);
+        started.answer.map_err(|_| Stop::StartRefused)?;
+        *self = Encoding {
+            encoder: started.encoder,
+            frames: 0,
+        };
+        Ok(())
     }
-    after(encoding, expected, framed)
+
+    // Encodes a frame with the published tables.
+    fn encode(&self, given: &Given) -> Framed {
+        self.encoder.frame(
+            &RESAMPLING,
+            &CORRELATION_INTERPOLATION,
+            &SIGNAL_INTERPOLATION,
+            given.samples.as_slice(),
+            given.nbits,
+            given.near_nyquist,
+        )
+    }
+
+    // A frame: it goes through the encoder, and what is published of it is compared at its place.
+    pub(crate) fn frame(&mut self, reader: &mut Reader<'_>, tally: &mut Tally) -> Result<(), Stop> {
+        let given = Given::read(reader).ok_or(Stop::FrameCutOff)?;
+        let expected = Expected::read(reader).ok_or(Stop::FrameCutOff)?;
+        let framed = self.encode(&given);
+        framed.answer.map_err(|_| Stop::FrameRefused)?;
+        tally.place = Place::Frame {
+            duration: framed.encoder.duration,
+            number: self.frames,
+        };
+        expected.compare(tally, &framed);
+        *self = Encoding {
+            encoder: framed.encoder,
+            frames: self.frames.wrapping_add(1),
+        };
+        Ok(())
+    }
 }

@@ -7,9 +7,10 @@ mod cases;
 mod frames;
 mod past;
 mod run;
+mod stop;
 mod tally;
 
-use arguments::inputs::{Opened, Reader, close, end, open, write_name};
+use arguments::inputs::{Reader, close, end, open, write_name};
 use arguments::options::is_to_run;
 use outcome::Outcome;
 use run::compare;
@@ -17,14 +18,14 @@ use std::process::ExitCode;
 
 // Compares the input that an argument names.
 fn compare_named(rt: &HostRuntime, outcome: &mut Outcome, argument: usize) {
-    let opened = open(rt, outcome, argument);
-    if let Opened::Input(source) = opened {
-        if write_name(rt, outcome, argument) {
-            let mut reader = Reader::new(rt, &source);
-            compare(rt, outcome, &mut reader);
-        }
-        close(source);
+    let Some(source) = open(rt, outcome, argument) else {
+        return;
+    };
+    if write_name(rt, outcome, argument) {
+        let mut reader = Reader::new(rt, &source);
+        compare(rt, outcome, &mut reader);
     }
+    close(source);
 }
 
 // Compares each input.

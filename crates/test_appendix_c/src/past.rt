@@ -3,12 +3,12 @@
 use arguments::inputs::Reader;
 use control::marks::Marks;
 use decoder::state::Decoder;
-use lag::index::{Unscaled, unscaled_lag};
+use lag::index::unscaled_lag;
 use lag::rescale::{Lag, rescale};
 use on_ring::registers::Registers;
 use slices::put;
-use vectors::part::first;
-use vectors::read::{Floats, read_floats, read_number};
+use vectors::part::Numbers;
+use vectors::read::{read_number, read_numbers};
 
 const RATE: u32 = 16000;
 
@@ -21,81 +21,75 @@ const R: u32 = 2;
 // first is always 0.0 and is not listed; its inputs, and the outputs of the two frames before.
 #[derive(Clone, Copy)]
 pub struct Past {
-    pub active: bool,
-    pub index: u32,
-    pub c_n: Floats,
-    pub c_d: Floats,
-    pub x: Floats,
-    pub prev: Floats,
+    active: bool,
+    index: u32,
+    c_n: Numbers<f32>,
+    c_d: Numbers<f32>,
+    x: Numbers<f32>,
+    prev: Numbers<f32>,
 }
 
-pub(crate) fn read_past(reader: &mut Reader<'_>) -> Past {
-    let active = read_number(reader, 1);
-    let index = read_number(reader, 4);
-    Past {
-        active: active.value != 0,
-        index: index.value,
-        c_n: read_floats(reader, 3),
-        c_d: read_floats(reader, 4),
-        x: read_floats(reader, 160),
-        prev: read_floats(reader, 320),
+impl Past {
+    pub(crate) fn read(reader: &mut Reader<'_>) -> Option<Past> {
+        Some(Past {
+            active: read_number(reader, 1)? != 0,
+            index: read_number(reader, 4)?,
+            c_n: read_numbers(reader, 3)?,
+            c_d: read_numbers(reader, 4)?,
+            x: read_numbers(reader, 160)?,
+            prev: read_numbers(reader, 320)?,
+        })
     }
-}
 
-// The lag that the frame before left: none if it was inactive.
-fn lag_before(active: bool, index: u32) -> Lag {
-    if active {
-        if let Unscaled::Quarters(quarters) = unscaled_lag(index) {
-            return rescale(R, quarters);
+    // The lag that the frame before left: none if it was inactive.
+    fn lag(&self) -> Option<Lag> {
+        if !self.active {
+            return None;
+        }
+        Some(rescale(R, unscaled_lag(self.index)?))
+    }
+
+    // The registers as the frame before left them.
+    fn registers(&self) -> Registers {
+        Registers {
+            marks: Marks {
+                rate: RATE,
+                duration: DURATION,
+                run: 0,
+                ltpf_active_prev: self.active,
+                settled: false,
+                lag: self.lag().unwrap_or(Lag {
+                    whole: 0,
+                    quarter: 0,
+                }),
+            },
+            block_start_index: 0,
         }
     }
-    Lag {
-        whole: 0,
-        quarter: 0,
-    }
-}
 
-// The filter that the frame before left: 11 numerator coefficients, and 13 of the denominator after them.
-fn filter_before(numerator: Floats, denominator: Floats) -> [f32; 24] {
-    let c_n = numerator.values;
-    let c_d = denominator.values;
-    let mut kept = [0.0; 24];
-    put(&mut kept, 0, first(&c_n, 3));
-    put(&mut kept, 12, first(&c_d, 4));
-    kept
-}
-
-// The registers as the frame before left them.
-fn registers_after(active: bool, lag: Lag) -> Registers {
-    Registers {
-        marks: Marks {
-            rate: RATE,
-            duration: DURATION,
-            run: 0,
-            ltpf_active_prev: active,
-            settled: false,
-            lag,
-        },
-        block_start_index: 0,
+    // The filter that the frame before left: 11 numerator coefficients, and 13 of the denominator after them.
+    fn filter(&self) -> [f32; 24] {
+        let mut kept = [0.0; 24];
+        put(&mut kept, 0, self.c_n.as_slice());
+        put(&mut kept, 12, self.c_d.as_slice());
+        kept
     }
 }
 
 // A ring with a part of it filled.
-fn ring(at: usize, part: Floats) -> [f32; 1080] {
-    let values = part.values;
+fn ring(at: usize, part: &Numbers<f32>) -> [f32; 1080] {
     let mut filled = [0.0; 1080];
-    put(&mut filled, at, first(&values, part.count));
+    put(&mut filled, at, part.as_slice());
     filled
 }
 
 // The decoder as the frames before left it. The inputs of the frame before the last are not published;
 // the filter reaches back only two inputs.
-pub(crate) fn decoder_after(past: Past) -> Decoder {
-    let lag = lag_before(past.active, past.index);
+pub(crate) fn decoder_after(past: &Past) -> Decoder {
     Decoder {
-        registers: registers_after(past.active, lag),
-        kept: filter_before(past.c_n, past.c_d),
-        x_hat_mem: ring(160, past.x),
-        x_hat_ltpf_mem: ring(0, past.prev),
+        registers: past.registers(),
+        kept: past.filter(),
+        x_hat_mem: ring(160, &past.x),
+        x_hat_ltpf_mem: ring(0, &past.prev),
     }
 }

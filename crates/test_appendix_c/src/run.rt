@@ -1,6 +1,7 @@
 // A run over one file of vectors.
 use crate::cases::compare_case;
-use crate::frames::{Encoding, begin, next_frame, start_encoder, stopped, with_tally};
+use crate::frames::Encoding;
+use crate::stop::Stop;
 use crate::tally::Tally;
 use arguments::inputs::Reader;
 use outcome::Outcome;
@@ -24,46 +25,44 @@ const LONGEST: usize = 1000;
 const NEWLINE: u32 = 10;
 
 // Reads a comment to its newline.
-fn skip_comment(reader: &mut Reader<'_>, tally: Tally) -> Tally {
+fn skip_comment(reader: &mut Reader<'_>) -> Result<(), Stop> {
     for _ in 0..LONGEST {
-        let byte = read_number(reader, 1);
-        if !byte.whole {
-            return tally.stop("a comment that is cut off");
-        }
-        if byte.value == NEWLINE {
-            return tally;
+        if read_number(reader, 1).ok_or(Stop::CommentCutOff)? == NEWLINE {
+            return Ok(());
         }
     }
-    tally.stop("a comment that is too long")
+    Err(Stop::CommentTooLong)
 }
 
 // Takes one record of the file.
-fn step(reader: &mut Reader<'_>, encoding: Encoding) -> Encoding {
-    let tally = encoding.tally;
-    let kind = read_number(reader, 1);
-    if !kind.whole {
-        return stopped(encoding, "the file ends without its end mark");
-    }
-    let letter = kind.value;
-    match letter {
-        COMMENT => with_tally(encoding, skip_comment(reader, tally)),
-        START => start_encoder(reader, encoding),
-        FRAME => next_frame(reader, encoding),
-        CASE => with_tally(encoding, compare_case(reader, tally)),
-        END => with_tally(encoding, tally.end()),
-        _ => stopped(encoding, "a record of an unknown kind"),
+fn step(reader: &mut Reader<'_>, encoding: &mut Encoding, tally: &mut Tally) -> Result<(), Stop> {
+    let kind = read_number(reader, 1).ok_or(Stop::End)?;
+    // The letter picks what reads the record: no table of functions would be plainer.
+    match kind {
+        COMMENT => skip_comment(reader),
+        START => encoding.start(reader),
+        FRAME => encoding.frame(reader, tally),
+        CASE => compare_case(reader, tally),
+        END => {
+            tally.report.end();
+            Ok(())
+        }
+        _ => Err(Stop::Kind),
     }
 }
 
-// Compares the file, and prints the counts. A proved loop has to end, so it counts its turns down, from
-// a number that no file uses up.
+// Compares the file, and prints the counts. A proved loop has to end: no file has so many records.
 pub(crate) fn compare(rt: &HostRuntime, outcome: &mut Outcome, reader: &mut Reader<'_>) {
-    let mut run = begin(rt, outcome);
-    let mut turns = u64::MAX;
-    while turns > 0 && run.tally.more {
-        run = step(reader, run);
-        turns -= 1;
+    let mut encoding = Encoding::new();
+    let mut tally = Tally::new(rt, outcome);
+    for _ in 0..u64::MAX {
+        if !tally.report.more {
+            break;
+        }
+        if let Err(why) = step(reader, &mut encoding, &mut tally) {
+            let place = tally.place;
+            tally.report.stop(&place, &why);
+        }
     }
-    let tally = run.tally;
     *outcome = tally.print_counts();
 }

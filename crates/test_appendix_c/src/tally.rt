@@ -1,11 +1,11 @@
 // The tally of a comparison: vectors, values, and the values that are out of tolerance. Each of those
 // is printed with its place, and each vector with its counts.
 use floats::bits::bits_of;
-use outcome::{Outcome, begin_message, failed};
+use outcome::Outcome;
 use std::fmt;
 use std::fmt::Display;
-use std::num::wrapping_add_u64;
-use vectors::read::{Floats, Number};
+use vectors::part::Numbers;
+use vectors::report::Report;
 
 // Where vectors stand: nowhere yet, in a frame of the encoder, or in a case of the decoder.
 #[derive(Clone, Copy)]
@@ -27,131 +27,88 @@ impl Display for Place {
     }
 }
 
-// Whether there is more to compare, where it stands, and the counts; and how the program has fared, and
-// what it writes by.
+// Where the comparison stands, and the counts; and what it is reported by.
 #[derive(Clone, Copy)]
 pub struct Tally {
-    pub more: bool,
+    pub report: Report,
     pub place: Place,
-    pub vectors: u64,
-    pub values: u64,
-    pub out: u64,
-    pub outcome: Outcome,
-    pub rt: HostRuntime,
+    vectors: u64,
+    values: u64,
+    out: u64,
 }
 
 // Whether two values are at most a tolerance apart. A NaN is near nothing.
 fn is_near(expected: f32, got: f32, tolerance: f32) -> bool {
     let difference = expected - got;
-    if -tolerance <= difference {
-        difference <= tolerance
-    } else {
-        false
-    }
+    -tolerance <= difference && difference <= tolerance
 }
 
 impl Tally {
     pub(crate) fn new(rt: &HostRuntime, outcome: &Outcome) -> Self {
         Tally {
-            more: true,
+            report: Report::new(rt, outcome),
             place: Place::Nowhere,
             vectors: 0,
             values: 0,
             out: 0,
-            outcome: *outcome,
-            rt: *rt,
         }
     }
 
-    // The tally, at a place from now on.
-    pub(crate) fn at(mut self, place: Place) -> Self {
-        self.place = place;
-        self
-    }
-
-    // Writes to standard output. Once that takes no more there is no more to compare.
-    fn print<D: Display + Drop>(mut self, text: D) -> Self {
-        let mut outcome = self.outcome;
-        if !outcome::print(&self.rt, &mut outcome, text) {
-            self.more = false;
-        }
-        self.outcome = outcome;
-        self
-    }
-
-    // The tally with one more vector, whose counts it prints.
-    fn vector(mut self, name: &str, values: u64, out: u64) -> Self {
-        self.vectors = wrapping_add_u64(self.vectors, 1);
-        self.values = wrapping_add_u64(self.values, values);
-        self.out = wrapping_add_u64(self.out, out);
+    // Prints what is to be said of a vector at its place.
+    fn print<D: Display + Drop>(&mut self, name: &str, what: D) {
         let place = self.place;
-        self.print(format_args!("{place} {name} values {values} out {out}\n"))
+        self.report.print(format_args!("{place} {name} {what}\n"));
+    }
+
+    // One more vector, whose counts it prints.
+    fn vector(&mut self, name: &str, values: u64, out: u64) {
+        self.vectors = self.vectors.wrapping_add(1);
+        self.values = self.values.wrapping_add(values);
+        self.out = self.out.wrapping_add(out);
+        self.print(name, format_args!("values {values} out {out}"));
     }
 
     // Compares a vector of one whole number.
-    pub(crate) fn number(self, name: &str, expected: Number, got: u64) -> Self {
-        let wanted = expected.value as u64;
-        if wanted == got {
-            return self.vector(name, 1, 0);
+    pub(crate) fn number(&mut self, name: &str, expected: u32, got: u64) {
+        let differs = u64::from(expected) != got;
+        if differs {
+            self.print(name, format_args!("expected {expected} got {got}"));
         }
-        let place = self.place;
-        let printed = self.print(format_args!("{place} {name} expected {wanted} got {got}\n"));
-        printed.vector(name, 1, 1)
-    }
-
-    // Prints the value of a vector that stands at i, which is out of tolerance.
-    fn float(self, name: &str, i: usize, expected: f32, got: f32) -> Self {
-        let place = self.place;
-        let wanted = bits_of(expected);
-        let made = bits_of(got);
-        self.print(format_args!("{place} {name} place {i} expected {wanted:08x} got {made:08x}\n"))
+        self.vector(name, 1, u64::from(differs));
     }
 
     // Compares a vector of floats, as far as there are both.
-    pub(crate) fn floats(self, name: &str, expected: Floats, got: &[f32], tolerance: f32) -> Self {
-        let wanted = expected.values;
-        let count = expected.count;
-        let mut tally = self;
+    pub(crate) fn floats(
+        &mut self,
+        name: &str,
+        expected: &Numbers<f32>,
+        got: &[f32],
+        tolerance: f32,
+    ) {
+        let mut values: u64 = 0;
         let mut out: u64 = 0;
-        let mut i = 0;
-        while i < 1024 && i < count && i < got.len() {
-            if !is_near(wanted[i], got[i], tolerance) {
-                tally = tally.float(name, i, wanted[i], got[i]);
-                out = wrapping_add_u64(out, 1);
+        for (i, (expected, got)) in expected.as_slice().iter().zip(got).enumerate() {
+            if !is_near(*expected, *got, tolerance) {
+                let expected = bits_of(*expected);
+                let got = bits_of(*got);
+                self.print(
+                    name,
+                    format_args!("place {i} expected {expected:08x} got {got:08x}"),
+                );
+                out = out.wrapping_add(1);
             }
-            i += 1;
+            values = values.wrapping_add(1);
         }
-        tally.vector(name, i as u64, out)
+        self.vector(name, values, out);
     }
 
     // Prints the counts, on a line, and answers how the program has fared then. A value out of tolerance is
     // a failure, and so is a line that cannot be written.
-    pub(crate) fn print_counts(self) -> Outcome {
+    pub(crate) fn print_counts(&mut self) -> Outcome {
         let vectors = self.vectors;
         let values = self.values;
         let out = self.out;
-        let printed = self.print(format_args!("vectors {vectors} values {values} out {out}\n"));
-        let mut outcome = printed.outcome;
-        if out > 0 {
-            failed(&mut outcome);
-        }
-        outcome
-    }
-
-    // The tally at the end of a file.
-    pub(crate) fn end(mut self) -> Self {
-        self.more = false;
-        self
-    }
-
-    // The same, and standard error is told why the rest of the file is not compared: a failure.
-    pub(crate) fn stop(mut self, why: &str) -> Self {
-        let place = self.place;
-        begin_message(&self.rt);
-        let _ = eprintln!(self.rt; "after {place}: {why}");
-        let mut outcome = self.outcome;
-        failed(&mut outcome);
-        self.outcome = outcome;
-        self.end()
+        self.report.print(format_args!("vectors {vectors} values {values} out {out}\n"));
+        self.report.outcome(out > 0)
     }
 }

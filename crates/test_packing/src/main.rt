@@ -5,25 +5,25 @@
 ghost use Rattle.std.specs.Prelude.{◌≤◌};
 
 use arguments::options::is_to_run;
-use lag::pitch::{PitchRecord, Present, Sent, sent_of};
-use outcome::{print, write_out};
+use lag::pitch::{PitchRecord, Present, sent_of};
+use outcome::{Outcome, print, write_out};
 use packing::read::{Reading, read_pitch};
 use packing::write::write_pitch;
 use rates::answer::number;
 use std::process::ExitCode;
 
 // A number and a tab.
-fn print_cell(rt: &HostRuntime, outcome: &mut outcome::Outcome, n: u64) {
+fn print_cell(rt: &HostRuntime, outcome: &mut Outcome, n: u64) {
     print(rt, outcome, format_args!("{n}\t"));
 }
 
 // Index and active, or two dashes.
-fn print_pitch(rt: &HostRuntime, outcome: &mut outcome::Outcome, pitch: PitchRecord) {
+fn print_pitch(rt: &HostRuntime, outcome: &mut Outcome, pitch: PitchRecord) {
     match sent_of(pitch) {
-        Sent::Absent => {
+        None => {
             write_out(rt, outcome, b"-\t-\t");
         }
-        Sent::Present(present) => {
+        Some(present) => {
             print_cell(rt, outcome, present.index as u64);
             print_cell(rt, outcome, present.active as u64);
         }
@@ -31,19 +31,18 @@ fn print_pitch(rt: &HostRuntime, outcome: &mut outcome::Outcome, pitch: PitchRec
 }
 
 // Bytes and a tab; a dash where there are none.
-fn print_bytes(rt: &HostRuntime, outcome: &mut outcome::Outcome, bytes: &[u8]) {
+fn print_bytes(rt: &HostRuntime, outcome: &mut Outcome, bytes: &[u8]) {
     if bytes.len() == 0 {
         write_out(rt, outcome, b"-");
     }
-    for i in 0..bytes.len() {
-        let byte = bytes[i];
+    for byte in bytes {
         print(rt, outcome, format_args!("{byte:02x}"));
     }
     write_out(rt, outcome, b"\t");
 }
 
 // Ends a line with a reading, and answers whether all of the line could be written.
-fn print_reading(rt: &HostRuntime, outcome: &mut outcome::Outcome, reading: Reading) -> bool {
+fn print_reading(rt: &HostRuntime, outcome: &mut Outcome, reading: Reading) -> bool {
     let answer = reading.answer;
     let pitch = reading.pitch;
     let used = reading.used;
@@ -55,7 +54,7 @@ fn print_reading(rt: &HostRuntime, outcome: &mut outcome::Outcome, reading: Read
 // A record written over bytes, and what they are then read as.
 fn write_line(
     rt: &HostRuntime,
-    outcome: &mut outcome::Outcome,
+    outcome: &mut Outcome,
     bytes: &mut [u8],
     pitch: PitchRecord,
 ) -> bool {
@@ -70,12 +69,7 @@ fn write_line(
 }
 
 // The same over so many bytes of A5.
-fn write_into(
-    rt: &HostRuntime,
-    outcome: &mut outcome::Outcome,
-    room: usize,
-    pitch: PitchRecord,
-) -> bool
+fn write_into(rt: &HostRuntime, outcome: &mut Outcome, room: usize, pitch: PitchRecord) -> bool
     requires { room ≤ 3 }
 {
     let mut bytes = [0xa5u8; 3];
@@ -84,7 +78,7 @@ fn write_into(
 
 fn write_present(
     rt: &HostRuntime,
-    outcome: &mut outcome::Outcome,
+    outcome: &mut Outcome,
     room: usize,
     index: u32,
     active: bool,
@@ -100,20 +94,19 @@ fn write_present(
 }
 
 // All 1,025 records, with room to spare.
-fn write_every(rt: &HostRuntime, outcome: &mut outcome::Outcome) -> bool {
+fn write_every(rt: &HostRuntime, outcome: &mut Outcome) -> bool {
     for index in 0..512 {
-        if !write_present(rt, outcome, 3, index, false) {
-            return false;
-        }
-        if !write_present(rt, outcome, 3, index, true) {
-            return false;
+        for active in [false, true] {
+            if !write_present(rt, outcome, 3, index, active) {
+                return false;
+            }
         }
     }
     write_into(rt, outcome, 3, PitchRecord::Absent)
 }
 
 // Records with and without a form, in a room of two bytes or less.
-fn write_in_little_room(rt: &HostRuntime, outcome: &mut outcome::Outcome, room: usize) -> bool
+fn write_in_little_room(rt: &HostRuntime, outcome: &mut Outcome, room: usize) -> bool
     requires { room ≤ 2 }
 {
     write_present(rt, outcome, room, 0, false)
@@ -127,34 +120,13 @@ fn write_in_little_room(rt: &HostRuntime, outcome: &mut outcome::Outcome, room: 
 fn is_padding_refused(reading: Reading) -> bool {
     let answer = reading.answer;
     let pitch = reading.pitch;
-    let PitchRecord::Absent = pitch else {
-        return false;
-    };
-    if reading.used > 0 {
-        return false;
-    }
-    number(answer) == 12
+    matches!(pitch, PitchRecord::Absent) && reading.used == 0 && number(answer) == 12
 }
 
-// What became of a reading: it is counted as refused with 12, or listed, or nothing can be written
-// any more.
-#[derive(Clone, Copy)]
-enum Outcome {
-    Counted,
-    Listed,
-    Failed,
-}
-
-fn read_line(rt: &HostRuntime, outcome: &mut outcome::Outcome, bytes: &[u8]) -> Outcome {
-    let reading = read_pitch(bytes);
-    if is_padding_refused(reading) {
-        return Outcome::Counted;
-    }
+// Lists a reading of bytes, and answers whether it could.
+fn list_reading(rt: &HostRuntime, outcome: &mut Outcome, bytes: &[u8], reading: Reading) -> bool {
     print_bytes(rt, outcome, bytes);
-    if print_reading(rt, outcome, reading) {
-        return Outcome::Listed;
-    }
-    Outcome::Failed
+    print_reading(rt, outcome, reading)
 }
 
 // The i-th of all runs of one byte or of two.
@@ -166,35 +138,20 @@ fn run_of_bytes(width: usize, i: u32) -> [u8; 2] {
     [(i / 256 % 256) as u8, low]
 }
 
-fn read_run(rt: &HostRuntime, outcome: &mut outcome::Outcome, width: usize, i: u32) -> Outcome
-    requires { width ≤ 2 }
-{
-    let bytes = run_of_bytes(width, i);
-    read_line(rt, outcome, &bytes[..width])
-}
-
-// 1 where a reading is counted.
-fn counted(read: Outcome) -> u64
-    ensures { result ≤ 1 }
-{
-    match read {
-        Outcome::Counted => 1,
-        Outcome::Listed => 0,
-        Outcome::Failed => 0,
-    }
-}
-
 // Lists the readings of all runs of so many bytes but those refused with 12, which it counts.
-fn read_every(rt: &HostRuntime, outcome: &mut outcome::Outcome, width: usize, count: u32) -> bool
+fn read_every(rt: &HostRuntime, outcome: &mut Outcome, width: usize, count: u32) -> bool
     requires { width ≤ 2 }
 {
     let mut refused: u64 = 0;
     for i in 0..count {
-        let read = read_run(rt, outcome, width, i);
-        if let Outcome::Failed = read {
+        let run = run_of_bytes(width, i);
+        let bytes = &run[..width];
+        let reading = read_pitch(bytes);
+        if is_padding_refused(reading) {
+            refused += 1;
+        } else if !list_reading(rt, outcome, bytes, reading) {
             return false;
         }
-        refused += counted(read);
     }
     print_cell(rt, outcome, width as u64);
     print_cell(rt, outcome, 12);
@@ -202,7 +159,7 @@ fn read_every(rt: &HostRuntime, outcome: &mut outcome::Outcome, width: usize, co
 }
 
 // Writes all, as far as it can be written.
-fn write_all(rt: &HostRuntime, outcome: &mut outcome::Outcome) -> bool {
+fn write_all(rt: &HostRuntime, outcome: &mut Outcome) -> bool {
     write_out(
         rt,
         outcome,
@@ -218,7 +175,7 @@ fn write_all(rt: &HostRuntime, outcome: &mut outcome::Outcome) -> bool {
 }
 
 fn main(rt: HostRuntime) -> ExitCode {
-    let mut outcome = outcome::Outcome::new();
+    let mut outcome = Outcome::new();
     if is_to_run(
         &rt,
         &mut outcome,

@@ -4,6 +4,11 @@
 use arguments::options::is_to_run;
 use floats::bits::bits_of;
 use outcome::{Outcome, print};
+use published::{
+    CORRELATION_INTERPOLATION, DENOMINATOR_8000, DENOMINATOR_16000, DENOMINATOR_24000,
+    DENOMINATOR_32000, DENOMINATOR_48000, NUMERATOR_8000, NUMERATOR_16000, NUMERATOR_24000,
+    NUMERATOR_32000, NUMERATOR_48000, RESAMPLING, SIGNAL_INTERPOLATION,
+};
 use std::process::ExitCode;
 
 fn print_bits(rt: &HostRuntime, outcome: &mut Outcome, value: f32) -> bool {
@@ -17,84 +22,37 @@ fn print_table(rt: &HostRuntime, outcome: &mut Outcome, name: &str, table: &[f32
     if !print(rt, outcome, format_args!("{name} {count}\n")) {
         return false;
     }
-    for i in 0..table.len() {
-        if !print_bits(rt, outcome, table[i]) {
+    for value in table {
+        if !print_bits(rt, outcome, *value) {
             return false;
         }
     }
     true
 }
 
-// The tables of the encoder.
-fn print_encoder(rt: &HostRuntime, outcome: &mut Outcome) -> bool {
-    print_table(rt, outcome, "resampling", &published::RESAMPLING)
-        && print_table(
-            rt,
-            outcome,
-            "correlation_interpolation",
-            &published::CORRELATION_INTERPOLATION,
-        )
-        && print_table(
-            rt,
-            outcome,
-            "signal_interpolation",
-            &published::SIGNAL_INTERPOLATION,
-        )
-}
-
-// The decoder's tables of the two lowest rates.
-fn print_low(rt: &HostRuntime, outcome: &mut Outcome) -> bool {
-    print_table(rt, outcome, "numerator_8000", &published::NUMERATOR_8000)
-        && print_table(
-            rt,
-            outcome,
-            "denominator_8000",
-            &published::DENOMINATOR_8000,
-        )
-        && print_table(rt, outcome, "numerator_16000", &published::NUMERATOR_16000)
-        && print_table(
-            rt,
-            outcome,
-            "denominator_16000",
-            &published::DENOMINATOR_16000,
-        )
-}
-
-// Those of the next two.
-fn print_middle(rt: &HostRuntime, outcome: &mut Outcome) -> bool {
-    print_table(rt, outcome, "numerator_24000", &published::NUMERATOR_24000)
-        && print_table(
-            rt,
-            outcome,
-            "denominator_24000",
-            &published::DENOMINATOR_24000,
-        )
-        && print_table(rt, outcome, "numerator_32000", &published::NUMERATOR_32000)
-        && print_table(
-            rt,
-            outcome,
-            "denominator_32000",
-            &published::DENOMINATOR_32000,
-        )
-}
-
-// Those of the highest.
-fn print_high(rt: &HostRuntime, outcome: &mut Outcome) -> bool {
-    print_table(rt, outcome, "numerator_48000", &published::NUMERATOR_48000)
-        && print_table(
-            rt,
-            outcome,
-            "denominator_48000",
-            &published::DENOMINATOR_48000,
-        )
-}
-
 // Writes all tables, as far as they can be written, and answers whether all of them were.
 fn print_all(rt: &HostRuntime, outcome: &mut Outcome) -> bool {
-    print_encoder(rt, outcome)
-        && print_low(rt, outcome)
-        && print_middle(rt, outcome)
-        && print_high(rt, outcome)
+    let tables: [(&str, &[f32]); 13] = [
+        ("resampling", &RESAMPLING),
+        ("correlation_interpolation", &CORRELATION_INTERPOLATION),
+        ("signal_interpolation", &SIGNAL_INTERPOLATION),
+        ("numerator_8000", &NUMERATOR_8000),
+        ("denominator_8000", &DENOMINATOR_8000),
+        ("numerator_16000", &NUMERATOR_16000),
+        ("denominator_16000", &DENOMINATOR_16000),
+        ("numerator_24000", &NUMERATOR_24000),
+        ("denominator_24000", &DENOMINATOR_24000),
+        ("numerator_32000", &NUMERATOR_32000),
+        ("denominator_32000", &DENOMINATOR_32000),
+        ("numerator_48000", &NUMERATOR_48000),
+        ("denominator_48000", &DENOMINATOR_48000),
+    ];
+    for (name, table) in tables {
+        if !print_table(rt, outcome, name, table) {
+            return false;
+        }
+    }
+    true
 }
 
 fn main(rt: HostRuntime) -> ExitCode {

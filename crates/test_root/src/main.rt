@@ -8,33 +8,31 @@ ghost use Rattle.std.specs.Prelude.{◌<◌};
 use arguments::options::{is_to_run, refuse};
 use floats::bits::{bits_of, float_of};
 use outcome::{Outcome, argument, print};
-use root::Root;
 use std::process::ExitCode;
 
-// The inputs of a run: those of `spread_input`, or all patterns from one on.
+// The inputs of a run: those of `spread_input`, or all patterns from one on. Neither is the lack of the
+// other, so this is no option.
 #[derive(Clone, Copy)]
 enum Inputs {
     Spread,
     From(u32),
 }
 
-// How many inputs a run has. It writes out the first 16, and then one of so many.
-const SPREAD: u64 = 104693;
-
-const SPREAD_SAMPLE: u64 = 1021;
-
-const WHOLE: u64 = 0x0100_0000;
-
-const WHOLE_SAMPLE: u64 = 1048573;
-
-const EVERY_SAMPLE: u64 = 67108859;
+// A run: its inputs, and how many it has. It writes out the first 16, and then one of so many.
+#[derive(Clone, Copy)]
+struct Run {
+    inputs: Inputs,
+    count: u64,
+    sample: u64,
+    ghost shows_some: { 0 < sample },
+}
 
 // Where the exponent's field starts, and how many patterns there are.
 const FIELD: u64 = 0x0080_0000;
 
 const PATTERNS: u64 = 0x1_0000_0000;
 
-// What is put for the pattern of a root where there is none: a NaN's, which no root has.
+// What the checksum has for the pattern of a root where there is none: a NaN's, which no root has.
 const NONE: u32 = 0xffff_ffff;
 
 // Zero with both signs; the smallest and the largest subnormal and normal float; the infinities, a
@@ -89,84 +87,81 @@ fn spread_input(i: u64) -> u64 {
 // The i-th input of a run, a pattern.
 fn input(inputs: Inputs, i: u64) -> u32 {
     match inputs {
-        Inputs::Spread => {
-            if i < 16 {
-                return READABLE[i as usize];
-            }
-            (spread_input(i - 16) % PATTERNS) as u32
-        }
+        Inputs::Spread => match READABLE.get(i as usize) {
+            Some(b) => *b,
+            None => (spread_input(i - 16) % PATTERNS) as u32,
+        },
         Inputs::From(first) => ((first as u64 + i % PATTERNS) % PATTERNS) as u32,
     }
 }
 
-// The pattern of the root of the float with the pattern b, or NONE.
-fn root_pattern(b: u32) -> u32 {
-    match root::sqrt(float_of(b)) {
-        Root::Root(v) => bits_of(v),
-        Root::NoRoot => NONE,
-    }
+// The pattern of the root of the float with the pattern b, if it has one.
+fn root_pattern(b: u32) -> Option<u32> {
+    root::sqrt(float_of(b)).map(bits_of)
 }
 
 // Writes an input and its root, and answers whether it could.
-fn print_line(rt: &HostRuntime, outcome: &mut Outcome, b: u32, r: u32) -> bool {
-    if r == NONE {
-        return print(rt, outcome, format_args!("{b:08x} none\n"));
+fn print_line(rt: &HostRuntime, outcome: &mut Outcome, b: u32, root: Option<u32>) -> bool {
+    match root {
+        Some(r) => print(rt, outcome, format_args!("{b:08x} {r:08x}\n")),
+        None => print(rt, outcome, format_args!("{b:08x} none\n")),
     }
-    print(rt, outcome, format_args!("{b:08x} {r:08x}\n"))
 }
 
 // The checksum with one more root: the roots are digits to the base 1000003, modulo a prime.
-fn mixed(sum: u64, r: u32) -> u64 {
-    (sum % 4294967291 * 1000003 + r as u64) % 4294967291
+fn mixed(sum: u64, root: Option<u32>) -> u64 {
+    (sum % 4294967291 * 1000003 + root.unwrap_or(NONE) as u64) % 4294967291
 }
 
-fn is_shown(i: u64, sample: u64) -> bool
-    requires { 0 < sample }
-{
-    i < 16 || i % sample == 0
-}
-
-// Takes the roots of a run's inputs, writes out a sample of them, and answers their checksum. It stops
-// where standard output takes no more.
-fn run(rt: &HostRuntime, outcome: &mut Outcome, inputs: Inputs, count: u64, sample: u64) -> u64
-    requires { 0 < sample }
-{
-    let mut sum: u64 = 0;
-    for i in 0..count {
-        let b = input(inputs, i);
-        let r = root_pattern(b);
-        if is_shown(i, sample) && !print_line(rt, outcome, b, r) {
-            break;
+impl Run {
+    // The run that a word names.
+    fn named(word: &[u8]) -> Option<Run> {
+        match word {
+            b"spread" => Some(Run {
+                inputs: Inputs::Spread,
+                count: 104693,
+                sample: 1021,
+            }),
+            b"whole" => Some(Run {
+                // from 1.0 on
+                inputs: Inputs::From(0x3f80_0000),
+                count: 0x0100_0000,
+                sample: 1048573,
+            }),
+            b"every" => Some(Run {
+                inputs: Inputs::From(0),
+                count: PATTERNS,
+                sample: 67108859,
+            }),
+            _ => None,
         }
-        sum = mixed(sum, r);
     }
-    sum
-}
 
-// Makes a run, and writes its count and its checksum.
-fn report(rt: &HostRuntime, outcome: &mut Outcome, inputs: Inputs, count: u64, sample: u64)
-    requires { 0 < sample }
-{
-    let sum = run(rt, outcome, inputs, count, sample);
-    print(rt, outcome, format_args!("inputs {count} checksum {sum}\n"));
-}
+    fn shows(&self, i: u64) -> bool {
+        i < 16 || i % self.sample == 0
+    }
 
-// Makes the run that a word names, and answers whether it names one.
-fn is_run(rt: &HostRuntime, outcome: &mut Outcome, word: &[u8]) -> bool {
-    if word == b"spread".as_slice() {
-        report(rt, outcome, Inputs::Spread, SPREAD, SPREAD_SAMPLE);
-        return true;
+    // Takes the roots of the inputs, writes out a sample of them, and answers their checksum. It stops
+    // where standard output takes no more.
+    fn sum(&self, rt: &HostRuntime, outcome: &mut Outcome) -> u64 {
+        let mut sum: u64 = 0;
+        for i in 0..self.count {
+            let b = input(self.inputs, i);
+            let root = root_pattern(b);
+            if self.shows(i) && !print_line(rt, outcome, b, root) {
+                break;
+            }
+            sum = mixed(sum, root);
+        }
+        sum
     }
-    if word == b"whole".as_slice() {
-        // from 1.0 on
-        report(rt, outcome, Inputs::From(0x3f80_0000), WHOLE, WHOLE_SAMPLE);
-        return true;
+
+    // Makes the run, and writes its count and its checksum.
+    fn report(&self, rt: &HostRuntime, outcome: &mut Outcome) {
+        let count = self.count;
+        let sum = self.sum(rt, outcome);
+        print(rt, outcome, format_args!("inputs {count} checksum {sum}\n"));
     }
-    if word == b"every".as_slice() {
-        report(rt, outcome, Inputs::From(0), PATTERNS, EVERY_SAMPLE);
-        return true;
-    }
-    false
 }
 
 fn main(rt: HostRuntime) -> ExitCode {
@@ -183,8 +178,9 @@ fn main(rt: HostRuntime) -> ExitCode {
     }
     let mut word = [0u8; 4096];
     let n = argument(&rt, 1, &mut word);
-    if !is_run(&rt, &mut outcome, &word[..n]) {
-        refuse(&rt, &mut outcome, 1, usage);
+    match Run::named(&word[..n]) {
+        Some(run) => run.report(&rt, &mut outcome),
+        None => refuse(&rt, &mut outcome, 1, usage),
     }
     outcome.status()
 }

@@ -13,6 +13,16 @@ use lag::pitch::{PitchRecord, Present};
 use outcome::{Outcome, print};
 use std::process::ExitCode;
 
+// What two decoders are compared at: how many samples a frame has at a duration, and how many equal
+// active frames come after the first.
+#[derive(Clone, Copy)]
+struct Case {
+    duration: u32,
+    nf: usize,
+    active: usize,
+    ghost fits: { nf ≤ 80 },
+}
+
 // One frame, with numerators of 0.0, denominators of 1.0 and the longest lag, 142 samples.
 fn step(decoder: Decoder, active: bool, nf: usize, samples: &mut [f32]) -> Framed
     requires { nf ≤ length samples.old }
@@ -43,31 +53,8 @@ fn stepped(decoder: Decoder, active: bool, nf: usize, count: usize) -> Decoder
     d
 }
 
-// A decoder whose first frame, an active one, has the given samples; then active frames and inactive
-// ones.
-fn prepared(duration: u32, nf: usize, first: f32, active: usize, inactive: usize) -> Decoder
-    requires { nf ≤ 80 }
-{
-    let started = start(8000, duration);
-    let mut samples = [first; 80];
-    let framed = step(started.decoder, true, nf, &mut samples);
-    let d = stepped(framed.decoder, true, nf, active);
-    stepped(d, false, nf, inactive)
-}
-
-// 1 where two samples differ.
-fn difference(a: f32, b: f32) -> u64
-    ensures { result ≤ 1 }
-{
-    if a != b { 1 } else { 0 }
-}
-
-fn differing(a: &[f32; 80], b: &[f32; 80]) -> u64 {
-    let mut n: u64 = 0;
-    for i in 0..80 {
-        n += difference(a[i], b[i]);
-    }
-    n
+fn differing(a: &[f32; 80], b: &[f32; 80]) -> usize {
+    a.iter().zip(b).filter(|(x, y)| **x != **y).count()
 }
 
 // Writes a line, and answers whether it could. It says whether both decoders say that they are settled.
@@ -77,7 +64,7 @@ fn report(
     duration: u32,
     inactive: usize,
     settled: bool,
-    differ: u64,
+    differ: usize,
 ) -> bool {
     let said = if settled { "yes" } else { "no" };
     print(
@@ -89,46 +76,53 @@ fn report(
     )
 }
 
-// The outputs of an equal active frame after so many equal inactive ones.
-fn compare(
-    rt: &HostRuntime,
-    outcome: &mut Outcome,
-    duration: u32,
-    nf: usize,
-    active: usize,
-    inactive: usize,
-) -> bool
-    requires { nf ≤ 80 }
-{
-    let a = prepared(duration, nf, 1.0, active, inactive);
-    let b = prepared(duration, nf, 2.0, active, inactive);
-    let mut x = [1.0; 80];
-    let mut y = [1.0; 80];
-    step(a, true, nf, &mut x);
-    step(b, true, nf, &mut y);
-    let settled = a.registers.marks.settled && b.registers.marks.settled;
-    report(rt, outcome, duration, inactive, settled, differing(&x, &y))
+impl Case {
+    // A decoder whose first frame, an active one, has the given samples; then active frames and so many
+    // inactive ones.
+    fn prepared(&self, first: f32, inactive: usize) -> Decoder {
+        let started = start(8000, self.duration);
+        let mut samples = [first; 80];
+        let framed = step(started.decoder, true, self.nf, &mut samples);
+        let d = stepped(framed.decoder, true, self.nf, self.active);
+        stepped(d, false, self.nf, inactive)
+    }
+
+    // The outputs of an equal active frame after so many equal inactive ones.
+    fn compare(&self, rt: &HostRuntime, outcome: &mut Outcome, inactive: usize) -> bool {
+        let a = self.prepared(1.0, inactive);
+        let b = self.prepared(2.0, inactive);
+        let mut x = [1.0; 80];
+        let mut y = [1.0; 80];
+        step(a, true, self.nf, &mut x);
+        step(b, true, self.nf, &mut y);
+        let settled = a.registers.marks.settled && b.registers.marks.settled;
+        let differ = differing(&x, &y);
+        report(rt, outcome, self.duration, inactive, settled, differ)
+    }
 }
 
-// One to four inactive frames after so many equal active ones.
-fn compare_each(
-    rt: &HostRuntime,
-    outcome: &mut Outcome,
-    duration: u32,
-    nf: usize,
-    active: usize,
-) -> bool
-    requires { nf ≤ 80 }
-{
-    compare(rt, outcome, duration, nf, active, 1)
-        && compare(rt, outcome, duration, nf, active, 2)
-        && compare(rt, outcome, duration, nf, active, 3)
-        && compare(rt, outcome, duration, nf, active, 4)
-}
-
-// Both durations, as far as they can be written.
+// Both durations, with one to four inactive frames, as far as they can be written.
 fn compare_all(rt: &HostRuntime, outcome: &mut Outcome) -> bool {
-    compare_each(rt, outcome, 10000, 80, 1) && compare_each(rt, outcome, 7500, 60, 2)
+    let cases = [
+        Case {
+            duration: 10000,
+            nf: 80,
+            active: 1,
+        },
+        Case {
+            duration: 7500,
+            nf: 60,
+            active: 2,
+        },
+    ];
+    for case in cases {
+        for inactive in 1..5 {
+            if !case.compare(rt, outcome, inactive) {
+                return false;
+            }
+        }
+    }
+    true
 }
 
 fn main(rt: HostRuntime) -> ExitCode {

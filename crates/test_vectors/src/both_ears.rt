@@ -1,152 +1,155 @@
-// The records of both ears that the decoder alone does not have: a frame of both, and what is made up in
-// the state of one.
-use crate::ear::{state_of, with_state};
-use crate::reports::{Given, read_given, read_pitch};
-use crate::run::{Run, broken, stopped, with_tally};
-use crate::state_parts::{Decoded, decode_both, with_names, with_run};
-use crate::tally::Tally;
+// The records of both ears: the calls of one, a frame of both, and what is made up in the state of one.
+use crate::decoding::call_loss;
+use crate::reports::{Given, Reports, read_pitch};
+use crate::run::{End, FRAME, LOSS, Run, START};
+use crate::stop::Stop;
+use crate::tally::Kind;
 use arguments::inputs::Reader;
-use ears::frame::BothFramed;
+use decoder::state::Decoder;
+use ears::frame::{BothFramed, frame_both};
+use ears_judging::ear::Ear;
 use lag::pitch::PitchRecord;
-use rates::answer::number;
-use vectors::part::{first, first_mut};
-use vectors::read::{Floats, read_number};
+use vectors::part::Numbers;
+use vectors::read::{read_number, read_numbers};
 
-// What goes into a frame beside its samples: two pitch records and the number of bits.
+// The letters of the records that are no calls: the run that is made up in an ear, and the rate and
+// duration that are.
+const RUN: u32 = 0x52;
+
+const NAMES: u32 = 0x4e;
+
+// The states of both.
 #[derive(Clone, Copy)]
-pub struct Side {
-    pub left: PitchRecord,
-    pub right: PitchRecord,
-    pub nbits: u32,
-}
-
-// What a frame's call gave, and its samples after it.
-#[derive(Clone, Copy)]
-pub struct Made {
-    pub decoded: Decoded,
-    pub samples: [f32; 1024],
-}
-
-// Decodes the samples given.
-fn decode(
-    run: Run,
-    numerators: &[f32],
-    denominators: &[f32],
-    side: Side,
-    given: [f32; 1024],
-    count: usize,
-) -> Made {
-    let mut samples = given;
-    let left_pitch = side.left;
-    let right_pitch = side.right;
-    let decoded = decode_both(
-        run.left,
-        left_pitch,
-        run.right,
-        right_pitch,
-        numerators,
-        denominators,
-        side.nbits,
-        first_mut(&mut samples, count),
-    );
-    Made { decoded, samples }
-}
-
-// Makes a frame's call with the set that is lent.
-fn make(run: Run, side: Side, given: Floats) -> Made {
-    let set = run.set;
-    let first_table = set.first;
-    let second_table = set.second;
-    let numerators = first_table.values;
-    let denominators = second_table.values;
-    let samples = given.values;
-    decode(
-        run,
-        first(&numerators, first_table.count),
-        first(&denominators, second_table.count),
-        side,
-        samples,
-        given.count,
-    )
-}
-
-// Compares the answers and the settled reports.
-fn compare_both(tally: Tally, given: Given, framed: BothFramed) -> Tally {
-    let left = framed.left;
-    let right = framed.right;
-    let left_expected = given.left;
-    let right_expected = given.right;
-    let left_answer = left.answer;
-    let right_answer = right.answer;
-    let one = tally.number("left answer", left_expected.answer, number(left_answer));
-    let two = one.number(
-        "left settled",
-        left_expected.settled,
-        left.registers.marks.settled as u64,
-    );
-    let three = two.number("right answer", right_expected.answer, number(right_answer));
-    three.number(
-        "right settled",
-        right_expected.settled,
-        right.registers.marks.settled as u64,
-    )
-}
-
-// The run after a frame, with all that came out of it compared.
-fn compare_frame(run: Run, given: Given, made: Made) -> Run {
-    let decoded = made.decoded;
-    let samples = made.samples;
-    let tally = run.tally;
-    let compared = compare_both(tally.frame(), given, decoded.framed);
-    let left = decoded.left;
-    let right = decoded.right;
-    let mut next = with_tally(run, compared.samples(given.expected, samples));
-    next.left = left;
-    next.right = right;
-    next
+pub struct Ears {
+    left: Decoder,
+    right: Decoder,
 }
 
 // A frame of both: pitch records, the number of bits and samples go in; answers, settled reports and
 // samples come out.
-pub(crate) fn call_frame(reader: &mut Reader<'_>, run: Run) -> Run {
-    let left = read_pitch(reader);
-    let right = read_pitch(reader);
-    let given = read_given(reader, true);
-    if !given.whole {
-        return broken(run);
-    }
-    let side = Side {
-        left,
-        right,
-        nbits: given.nbits,
-    };
-    compare_frame(run, given, make(run, side, given.samples))
+#[derive(Clone, Copy)]
+struct Frame {
+    pitches: [PitchRecord; 2],
+    given: Given,
+    reports: [Reports; 2],
+    expected: Numbers<f32>,
 }
 
-// The run after a state that could not be read.
-fn cut_off(run: Run) -> Run {
-    stopped(run, "a state that is cut off")
+impl Frame {
+    fn read(reader: &mut Reader<'_>) -> Option<Frame> {
+        let pitches = [read_pitch(reader)?, read_pitch(reader)?];
+        let given = Given::read(reader)?;
+        Some(Frame {
+            pitches,
+            given,
+            reports: [Reports::read(reader)?, Reports::read(reader)?],
+            expected: read_numbers(reader, given.samples.count)?,
+        })
+    }
 }
 
-// A made-up run of an ear.
-pub(crate) fn put_run(reader: &mut Reader<'_>, run: Run, ear: u32) -> Run {
-    let length = read_number(reader, 4);
-    if !length.whole {
-        return cut_off(run);
+impl Ears {
+    // Reads which ear is meant, 0 for left, any other number for right: its state.
+    fn read_ear(&mut self, reader: &mut Reader<'_>) -> Option<&mut Decoder> {
+        match read_number(reader, 1)? {
+            0 => Some(&mut self.left),
+            _ => Some(&mut self.right),
+        }
     }
-    with_state(run, ear, with_run(state_of(run, ear), length.value))
+
+    // Decodes a frame in place.
+    fn decode(&mut self, run: &Run<'_>, call: &Frame, samples: &mut [f32]) -> BothFramed {
+        let [numerators, denominators, _] = &run.set;
+        let [left_pitch, right_pitch] = call.pitches;
+        let left = &mut self.left;
+        let right = &mut self.right;
+        let framed = frame_both(
+            Ear {
+                registers: left.registers,
+                pitch: left_pitch,
+            },
+            &mut left.kept,
+            &mut left.x_hat_mem,
+            &mut left.x_hat_ltpf_mem,
+            Ear {
+                registers: right.registers,
+                pitch: right_pitch,
+            },
+            &mut right.kept,
+            &mut right.x_hat_mem,
+            &mut right.x_hat_ltpf_mem,
+            numerators.as_slice(),
+            denominators.as_slice(),
+            call.given.nbits,
+            samples,
+        );
+        left.registers = framed.left.registers;
+        right.registers = framed.right.registers;
+        framed
+    }
+
+    fn call_frame(&mut self, run: &mut Run<'_>) -> Result<(), Stop> {
+        let call = Frame::read(&mut run.reader).ok_or(Stop::Call)?;
+        let mut samples = call.given.samples;
+        let framed = self.decode(run, &call, samples.as_mut_slice());
+        let [left, right] = call.reports;
+        run.tally.count(Kind::Frame);
+        left.compare(
+            &mut run.tally,
+            ["left answer", "left settled"],
+            framed.left.answer,
+            framed.left.registers.marks.settled,
+        );
+        right.compare(
+            &mut run.tally,
+            ["right answer", "right settled"],
+            framed.right.answer,
+            framed.right.registers.marks.settled,
+        );
+        run.tally.samples(&call.expected, &samples);
+        Ok(())
+    }
+
+    // A made-up run of an ear.
+    fn put_run(&mut self, reader: &mut Reader<'_>) -> Option<()> {
+        let ear = self.read_ear(reader)?;
+        ear.registers.marks.run = read_number(reader, 4)?;
+        Some(())
+    }
+
+    // A made-up rate and duration of an ear.
+    fn put_names(&mut self, reader: &mut Reader<'_>) -> Option<()> {
+        let ear = self.read_ear(reader)?;
+        let rate = read_number(reader, 4)?;
+        let duration = read_number(reader, 4)?;
+        ear.registers.marks.rate = rate;
+        ear.registers.marks.duration = duration;
+        Some(())
+    }
 }
 
-// A made-up rate and duration of an ear.
-pub(crate) fn put_names(reader: &mut Reader<'_>, run: Run, ear: u32) -> Run {
-    let rate = read_number(reader, 4);
-    let duration = read_number(reader, 4);
-    if !duration.whole {
-        return cut_off(run);
+impl End for Ears {
+    const TABLES: usize = 2;
+
+    fn new() -> Self {
+        let decoder = Decoder::new();
+        Ears {
+            left: decoder,
+            right: decoder,
+        }
     }
-    with_state(
-        run,
-        ear,
-        with_names(state_of(run, ear), rate.value, duration.value),
-    )
+
+    fn take(&mut self, run: &mut Run<'_>, kind: u32) -> Result<(), Stop> {
+        match kind {
+            START => {
+                let ear = self.read_ear(&mut run.reader).ok_or(Stop::Call)?;
+                run.start(ear)
+            }
+            FRAME => self.call_frame(run),
+            LOSS => call_loss(self.read_ear(&mut run.reader).ok_or(Stop::Call)?, run),
+            RUN => self.put_run(&mut run.reader).ok_or(Stop::State),
+            NAMES => self.put_names(&mut run.reader).ok_or(Stop::State),
+            _ => Err(Stop::Kind),
+        }
+    }
 }

@@ -5,111 +5,108 @@
 #![tactic(auto)]
 
 mod both_ears;
-mod ear;
+mod decoding;
 mod encoding;
-mod one_ear;
 mod reports;
 mod run;
-mod set;
-mod state_parts;
+mod stop;
 mod tally;
-mod walk;
 
-use arguments::inputs::{Opened, Reader, close, open, write_name};
+use arguments::inputs::{Reader, close, open, write_name};
 use arguments::options::{count, is_to_run, refuse};
+use both_ears::Ears;
+use decoder::state::Decoder;
+use encoder::state::Encoder;
 use outcome::{Outcome, argument as put_argument};
+use run::compare;
 use std::process::ExitCode;
-use walk::{End, compare};
 
-// What an argument means: an end, or a file.
+// What a vector file is of.
 #[derive(Clone, Copy)]
-enum Meant {
-    End(End),
-    File,
+enum End {
+    Decoder,
+    Encoder,
+    Ears,
 }
 
-// The end that was named last, and whether a file has been named for it.
+// The end that was named last, and whether a file has been named for it: there is an end either way.
 #[derive(Clone, Copy)]
 struct Chosen {
     end: End,
     is_used: bool,
 }
 
-fn meaning(rt: &HostRuntime, argument: usize) -> Meant {
-    let mut space = [0u8; 4096];
-    let length = put_argument(rt, argument, &mut space);
-    let word = &space[..length];
-    if word == b"decoder".as_slice() {
-        return Meant::End(End::Decoder);
+impl End {
+    // The end that an argument names, if it is no file.
+    fn named(rt: &HostRuntime, argument: usize) -> Option<End> {
+        let mut space = [0u8; 4096];
+        let length = put_argument(rt, argument, &mut space);
+        match &space[..length] {
+            b"decoder" => Some(End::Decoder),
+            b"encoder" => Some(End::Encoder),
+            b"ears" => Some(End::Ears),
+            _ => None,
+        }
     }
-    if word == b"encoder".as_slice() {
-        return Meant::End(End::Encoder);
-    }
-    if word == b"ears".as_slice() {
-        return Meant::End(End::Ears);
-    }
-    Meant::File
-}
 
-// Compares the input that an argument names.
-fn compare_named(rt: &HostRuntime, outcome: &mut Outcome, end: End, argument: usize) {
-    let opened = open(rt, outcome, argument);
-    if let Opened::Input(source) = opened {
+    // Compares the input that an argument names.
+    fn compare_named(self, rt: &HostRuntime, outcome: &mut Outcome, argument: usize) {
+        let Some(source) = open(rt, outcome, argument) else {
+            return;
+        };
         if write_name(rt, outcome, argument) {
-            let mut reader = Reader::new(rt, &source);
-            compare(rt, outcome, end, &mut reader);
+            let reader = Reader::new(rt, &source);
+            match self {
+                End::Decoder => compare::<Decoder>(rt, outcome, reader),
+                End::Encoder => compare::<Encoder>(rt, outcome, reader),
+                End::Ears => compare::<Ears>(rt, outcome, reader),
+            }
         }
         close(source);
     }
 }
 
-// Nothing more is named for an end. An argument that is not there stands for standard input.
-fn finish(rt: &HostRuntime, outcome: &mut Outcome, chosen: Chosen) {
-    let end = chosen.end;
-    if !chosen.is_used {
-        compare_named(rt, outcome, end, count(rt));
+impl Chosen {
+    fn new(end: End) -> Chosen {
+        Chosen {
+            end,
+            is_used: false,
+        }
     }
-}
 
-fn take(rt: &HostRuntime, outcome: &mut Outcome, chosen: Chosen, argument: usize) -> Chosen {
-    let meant = meaning(rt, argument);
-    match meant {
-        Meant::End(end) => {
-            finish(rt, outcome, chosen);
-            Chosen {
-                end,
-                is_used: false,
+    // Nothing more is named for the end. An argument that is not there stands for standard input.
+    fn finish(self, rt: &HostRuntime, outcome: &mut Outcome) {
+        if !self.is_used {
+            self.end.compare_named(rt, outcome, count(rt));
+        }
+    }
+
+    // Takes an argument: another end, or a file.
+    fn take(&mut self, rt: &HostRuntime, outcome: &mut Outcome, argument: usize) {
+        match End::named(rt, argument) {
+            Some(end) => {
+                self.finish(rt, outcome);
+                *self = Chosen::new(end);
+            }
+            None => {
+                self.end.compare_named(rt, outcome, argument);
+                self.is_used = true;
             }
         }
-        Meant::File => {
-            let end = chosen.end;
-            compare_named(rt, outcome, end, argument);
-            Chosen { end, is_used: true }
-        }
     }
-}
-
-// Takes the arguments after the first end.
-fn take_all(rt: &HostRuntime, outcome: &mut Outcome, first: End) -> Chosen {
-    let mut chosen = Chosen {
-        end: first,
-        is_used: false,
-    };
-    for argument in 2..count(rt) {
-        chosen = take(rt, outcome, chosen, argument);
-    }
-    chosen
 }
 
 // Compares what the arguments name.
 fn compare_all(rt: &HostRuntime, outcome: &mut Outcome, usage: &[u8]) {
-    let meant = meaning(rt, 1);
-    let Meant::End(first) = meant else {
+    let Some(first) = End::named(rt, 1) else {
         refuse(rt, outcome, 1, usage);
         return;
     };
-    let last = take_all(rt, outcome, first);
-    finish(rt, outcome, last);
+    let mut chosen = Chosen::new(first);
+    for argument in 2..count(rt) {
+        chosen.take(rt, outcome, argument);
+    }
+    chosen.finish(rt, outcome);
 }
 
 fn main(rt: HostRuntime) -> ExitCode {

@@ -1,56 +1,113 @@
-// A run over a vector file.
-use crate::set::{Set, nothing};
-use crate::tally::Tally;
-use decoder::state::Decoder;
-use encoder::state::Encoder;
+// A run over a vector file, record by record.
+use crate::stop::Stop;
+use crate::tally::{Kind, Tally};
+use arguments::inputs::Reader;
 use outcome::Outcome;
+use rates::answer::{Answer, number};
+use vectors::part::Numbers;
+use vectors::read::{none, read_number, read_numbers};
 
-// Both ears of the decoder, of which the decoder alone is the left one; the encoder; the set that is
-// lent, and the tally.
+// The letters of the records: the calls, a set that is lent, and the end.
+pub const START: u32 = 0x53;
+
+pub const FRAME: u32 = 0x46;
+
+pub const LOSS: u32 = 0x4c;
+
+const SET: u32 = 0x43;
+
+const END: u32 = 0x45;
+
+// The tables that are lent: the decoder's numerators and denominators, and then nothing; or what the
+// encoder resamples with, and interpolates correlations and signals with.
+pub type Set = [Numbers<f32>; 3];
+
+// The file, the set that is lent, and the tally.
 #[derive(Clone, Copy)]
-pub struct Run {
-    pub left: Decoder,
-    pub right: Decoder,
-    pub encoder: Encoder,
+pub struct Run<'a> {
+    pub reader: Reader<'a>,
     pub set: Set,
     pub tally: Tally,
 }
 
-// A run before the first record.
-pub(crate) fn begin(rt: &HostRuntime, outcome: &Outcome) -> Run {
-    let decoding = decoder::state::start(48000, 10000);
-    let encoding = encoder::state::start(48000, 10000);
-    let left = decoding.decoder;
-    let right = decoding.decoder;
-    let encoder = encoding.encoder;
-    Run {
-        left,
-        right,
-        encoder,
-        set: nothing(),
-        tally: Tally::new(rt, outcome),
+// A state that a start gives, and its answer.
+pub trait Start: Copy {
+    fn start(rate: u32, duration: u32) -> (Self, Answer);
+}
+
+// What a vector file is of, with its state.
+pub trait End: Copy {
+    // How many tables its set has.
+    const TABLES: usize;
+
+    // The state before the first record.
+    fn new() -> Self;
+
+    // Reads a record of some kind that is neither a set nor the end, and makes and compares its call.
+    fn take(&mut self, run: &mut Run<'_>, kind: u32) -> Result<(), Stop>;
+}
+
+// Reads a set: the counts of its tables, then the tables.
+fn read_set(reader: &mut Reader<'_>, tables: usize) -> Option<Set> {
+    let mut counts = [0; 3];
+    for count in counts.iter_mut().take(tables) {
+        *count = read_number(reader, 2)? as usize;
+    }
+    let mut set = [none(); 3];
+    for (table, count) in set.iter_mut().zip(counts) {
+        *table = read_numbers(reader, count)?;
+    }
+    Some(set)
+}
+
+// Reads what a start's call has: the rate, the duration and the answer.
+fn read_start(reader: &mut Reader<'_>) -> Option<[u32; 3]> {
+    Some([
+        read_number(reader, 4)?,
+        read_number(reader, 4)?,
+        read_number(reader, 1)?,
+    ])
+}
+
+impl Run<'_> {
+    // A start of a state: the rate and the duration go in, an answer comes out.
+    pub(crate) fn start<S: Start>(&mut self, state: &mut S) -> Result<(), Stop> {
+        let [rate, duration, expected] = read_start(&mut self.reader).ok_or(Stop::Call)?;
+        let (started, answer) = S::start(rate, duration);
+        *state = started;
+        self.tally.count(Kind::Start);
+        self.tally.number("answer", expected, number(answer));
+        Ok(())
+    }
+
+    // Takes one record of the file.
+    fn step<E: End>(&mut self, end: &mut E) -> Result<(), Stop> {
+        let kind = read_number(&mut self.reader, 1).ok_or(Stop::End)?;
+        match kind {
+            SET => self.set = read_set(&mut self.reader, E::TABLES).ok_or(Stop::Set)?,
+            END => self.tally.report.end(),
+            _ => end.take(self, kind)?,
+        }
+        Ok(())
     }
 }
 
-// The run with another tally.
-pub(crate) fn with_tally(run: Run, tally: Tally) -> Run {
-    let mut next = run;
-    next.tally = tally;
-    next
-}
-
-// The run, whose file is compared no further.
-pub(crate) fn stopped(run: Run, why: &str) -> Run {
-    let tally = run.tally;
-    with_tally(run, tally.stop(why))
-}
-
-// The run after a call that could not be read: it is not made.
-pub(crate) fn broken(run: Run) -> Run {
-    stopped(run, "a call that is cut off or too long")
-}
-
-// The run after a record that its end does not have.
-pub(crate) fn unknown(run: Run) -> Run {
-    stopped(run, "a record of an unknown kind")
+// Compares the file, and prints the counts. A proved loop has to end: no file has so many records.
+pub(crate) fn compare<E: End>(rt: &HostRuntime, outcome: &mut Outcome, reader: Reader<'_>) {
+    let mut end = E::new();
+    let mut run = Run {
+        reader,
+        set: [none(); 3],
+        tally: Tally::new(rt, outcome),
+    };
+    for _ in 0..u64::MAX {
+        if !run.tally.report.more {
+            break;
+        }
+        if let Err(why) = run.step(&mut end) {
+            let last = run.tally.last;
+            run.tally.report.stop(&last, &why);
+        }
+    }
+    *outcome = run.tally.print_counts();
 }

@@ -1,196 +1,121 @@
 // The tally of a comparison: the calls made so far and the differences found. Calls are counted from
 // 1, each kind by itself, and a difference is printed with its call.
 use floats::bits::bits_of;
-use outcome::{Outcome, begin_message, failed};
+use outcome::Outcome;
 use std::fmt;
 use std::fmt::Display;
-use std::num::wrapping_add_u64;
-use vectors::read::{Floats, Number};
-
-// The kinds of calls, by the letters of their records.
-pub const START: u32 = 0x53;
-
-pub const FRAME: u32 = 0x46;
-
-pub const LOSS: u32 = 0x4c;
+use vectors::part::Numbers;
+use vectors::report::Report;
 
 // The most differences that are printed; all are counted.
 const PRINTED: u64 = 1000;
 
-// Whether there is more to compare, the kind of the last call, how many calls there were, how many of
-// each kind, and how many numbers of their answers differed; and how the program has fared, and what it
-// writes by.
 #[derive(Clone, Copy)]
-pub struct Tally {
-    pub more: bool,
-    pub kind: u32,
-    pub calls: u64,
-    pub starts: u64,
-    pub frames: u64,
-    pub losses: u64,
-    pub differences: u64,
-    pub outcome: Outcome,
-    pub rt: HostRuntime,
+pub enum Kind {
+    Start,
+    Frame,
+    Loss,
 }
 
 // A call, by its number among those of its kind.
 #[derive(Clone, Copy)]
-enum Call {
-    Start(u64),
-    Frame(u64),
-    Loss(u64),
+pub struct Call {
+    kind: Kind,
+    number: u64,
 }
 
 impl Display for Call {
     fn fmt<W: fmt::Write>(&self, f: &mut fmt::Formatter<W>) -> fmt::Result {
-        match self {
-            Call::Start(number) => write!(f, "start {number}"),
-            Call::Frame(number) => write!(f, "frame {number}"),
-            Call::Loss(number) => write!(f, "loss mark {number}"),
+        let number = self.number;
+        match self.kind {
+            Kind::Start => write!(f, "start {number}"),
+            Kind::Frame => write!(f, "frame {number}"),
+            Kind::Loss => write!(f, "loss mark {number}"),
         }
     }
+}
+
+// The last call, how many there were, how many of each kind, and how many numbers of their answers
+// differed; and what it is reported by.
+#[derive(Clone, Copy)]
+pub struct Tally {
+    pub report: Report,
+    pub last: Call,
+    calls: u64,
+    starts: u64,
+    frames: u64,
+    losses: u64,
+    differences: u64,
 }
 
 impl Tally {
     pub(crate) fn new(rt: &HostRuntime, outcome: &Outcome) -> Self {
         Tally {
-            more: true,
-            kind: START,
+            report: Report::new(rt, outcome),
+            last: Call {
+                kind: Kind::Start,
+                number: 0,
+            },
             calls: 0,
             starts: 0,
             frames: 0,
             losses: 0,
             differences: 0,
-            outcome: *outcome,
-            rt: *rt,
         }
     }
 
-    pub(crate) fn start(mut self) -> Self {
-        self.kind = START;
-        self.calls = wrapping_add_u64(self.calls, 1);
-        self.starts = wrapping_add_u64(self.starts, 1);
-        self
+    // One more call.
+    pub(crate) fn count(&mut self, kind: Kind) {
+        let counted = match kind {
+            Kind::Start => &mut self.starts,
+            Kind::Frame => &mut self.frames,
+            Kind::Loss => &mut self.losses,
+        };
+        *counted = counted.wrapping_add(1);
+        self.last = Call {
+            kind,
+            number: *counted,
+        };
+        self.calls = self.calls.wrapping_add(1);
     }
 
-    pub(crate) fn frame(mut self) -> Self {
-        self.kind = FRAME;
-        self.calls = wrapping_add_u64(self.calls, 1);
-        self.frames = wrapping_add_u64(self.frames, 1);
-        self
-    }
-
-    pub(crate) fn loss(mut self) -> Self {
-        self.kind = LOSS;
-        self.calls = wrapping_add_u64(self.calls, 1);
-        self.losses = wrapping_add_u64(self.losses, 1);
-        self
-    }
-
-    // The call that was counted last.
-    fn call(self) -> Call {
-        let kind = self.kind;
-        match kind {
-            START => Call::Start(self.starts),
-            FRAME => Call::Frame(self.frames),
-            _ => Call::Loss(self.losses),
-        }
-    }
-
-    // Writes to standard output. Once that takes no more there is no more to compare.
-    fn print<D: Display + Drop>(mut self, text: D) -> Self {
-        let mut outcome = self.outcome;
-        if !outcome::print(&self.rt, &mut outcome, text) {
-            self.more = false;
-        }
-        self.outcome = outcome;
-        self
-    }
-
-    // One more difference.
-    fn differs(mut self) -> Self {
-        self.differences = wrapping_add_u64(self.differences, 1);
-        self
-    }
-
-    fn print_number(self, name: &str, expected: u64, got: u64) -> Self {
-        let call = self.call();
-        self.print(format_args!("{call} {name} expected {expected} got {got}\n"))
-    }
-
-    // Compares a number of the last call's answer, and prints it where it differs.
-    pub(crate) fn number(self, name: &str, expected: Number, got: u64) -> Self {
-        let wanted = expected.value as u64;
-        if wanted == got {
-            return self;
-        }
+    // One more difference of the last call's answer.
+    fn differs<D: Display + Drop>(&mut self, what: D) {
+        let last = self.last;
         if self.differences < PRINTED {
-            return self.print_number(name, wanted, got).differs();
+            self.report.print(format_args!("{last} {what}\n"));
         }
-        self.differs()
+        self.differences = self.differences.wrapping_add(1);
     }
 
-    fn print_sample(self, place: usize, expected: u32, got: u32) -> Self {
-        let call = self.call();
-        self.print(format_args!("{call} sample {place} expected {expected:08x} got {got:08x}\n"))
+    // Compares a number of the last call's answer.
+    pub(crate) fn number(&mut self, name: &str, expected: u32, got: u64) {
+        if u64::from(expected) != got {
+            self.differs(format_args!("{name} expected {expected} got {got}"));
+        }
     }
 
-    // Compares a sample of the last call's answer by its bits, any NaN with any NaN.
-    fn sample(self, place: usize, expected: f32, got: f32) -> Self {
-        let expected_bits = bits_of(expected);
-        let got_bits = bits_of(got);
-        if expected_bits == got_bits {
-            return self;
+    // Compares samples of the last call's answer by their bits, any NaN with any NaN.
+    pub(crate) fn samples(&mut self, expected: &Numbers<f32>, got: &Numbers<f32>) {
+        let pairs = expected.as_slice().iter().zip(got.as_slice());
+        for (place, (expected, got)) in pairs.enumerate() {
+            let expected = bits_of(*expected);
+            let got = bits_of(*got);
+            if expected != got {
+                self.differs(format_args!("sample {place} expected {expected:08x} got {got:08x}"));
+            }
         }
-        if self.differences < PRINTED {
-            return self.print_sample(place, expected_bits, got_bits).differs();
-        }
-        self.differs()
-    }
-
-    // Compares samples of the last call's answer, as many as are expected.
-    pub(crate) fn samples(self, expected: Floats, got: [f32; 1024]) -> Self {
-        let wanted = expected.values;
-        let count = expected.count;
-        let mut compared = self;
-        let mut i = 0;
-        while i < 1024 && i < count {
-            compared = compared.sample(i, wanted[i], got[i]);
-            i += 1;
-        }
-        compared
     }
 
     // Prints the counts, on a line, and answers how the program has fared then. A difference is a failure,
     // and so is a line that cannot be written.
-    pub(crate) fn print_counts(self) -> Outcome {
+    pub(crate) fn print_counts(&mut self) -> Outcome {
         let calls = self.calls;
         let frames = self.frames;
         let differences = self.differences;
-        let printed = self.print(format_args!(
+        self.report.print(format_args!(
             "calls {calls} frames {frames} differences {differences}\n"
         ));
-        let mut outcome = printed.outcome;
-        if differences > 0 {
-            failed(&mut outcome);
-        }
-        outcome
-    }
-
-    // The tally at the end of a file.
-    pub(crate) fn end(mut self) -> Self {
-        self.more = false;
-        self
-    }
-
-    // The same, and standard error is told why the rest of the file is not compared: a failure.
-    pub(crate) fn stop(mut self, why: &str) -> Self {
-        let call = self.call();
-        begin_message(&self.rt);
-        let _ = eprintln!(self.rt; "after {call}: {why}");
-        let mut outcome = self.outcome;
-        failed(&mut outcome);
-        self.outcome = outcome;
-        self.end()
+        self.report.outcome(differences > 0)
     }
 }

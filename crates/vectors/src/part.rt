@@ -1,11 +1,32 @@
-// The first elements of an array.
+// The numbers of a part, and the first elements of an array.
 ghost use Rattle.std.specs.Prelude.{◌≡◌, take};
 
-// The first count of floats, or all where there are fewer.
-pub fn first(floats: &[f32; 1024], count: usize) -> &[f32]
-    ensures { result.now ≡ take count floats.now }
+// So many numbers, with zeros after them: an array with a count, since nothing here is on the heap.
+#[derive(Clone, Copy)]
+pub struct Numbers<T> {
+    pub values: [T; 1024],
+    pub count: usize,
+}
+
+impl<T> Numbers<T> {
+    pub fn as_slice(&self) -> &[T]
+        ensures { result.now ≡ take self.now.count self.now.values }
+    {
+        first(&self.values, self.count)
+    }
+
+    pub fn as_mut_slice(&mut self) -> &mut [T]
+        ensures { result.now ≡ take self.old.count self.old.values }
+    {
+        let values = &mut self.values;
+        first_mut(&mut values[..], self.count)
+    }
+}
+
+// The first count of all, or all where there are fewer.
+pub fn first<T>(all: &[T], count: usize) -> &[T]
+    ensures { result.now ≡ take count all.now }
 {
-    let all: &[f32] = floats;
     if count < all.len() {
         &all[..count]
     } else {
@@ -13,25 +34,13 @@ pub fn first(floats: &[f32; 1024], count: usize) -> &[f32]
     }
 }
 
-// The same of a slice, to be changed.
-pub fn first_mut(floats: &mut [f32], count: usize) -> &mut [f32]
-    ensures { result.now ≡ take count floats.old }
+// The same, to be changed.
+pub fn first_mut<T>(values: &mut [T], count: usize) -> &mut [T]
+    ensures { result.now ≡ take count values.old }
 {
-    if count < floats.len() {
-        &mut floats[..count]
+    if count < values.len() {
+        &mut values[..count]
     } else {
-        floats
-    }
-}
-
-// The first count of samples, or all where there are fewer.
-pub fn first_signed(samples: &[i16; 1024], count: usize) -> &[i16]
-    ensures { result.now ≡ take count samples.now }
-{
-    let whole: &[i16] = samples;
-    if count < whole.len() {
-        &whole[..count]
-    } else {
-        whole
+        values
     }
 }

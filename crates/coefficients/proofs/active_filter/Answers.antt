@@ -1,22 +1,9 @@
 -- `active_filter` scales the two rows that the definition names, each into its part of the array.
 use mathlib.Core.Path.{refl, ◌∙◌}
-use native.Mathlib.Omega.{arith}
-use lib.ListN.{length-take, length-append}
 use lib.Ieee.{of_bits, round}
 use Rattle.coefficients.specs.Coefficients.{filter_of}
 use Rattle.coefficients.proofs.LaidOut.{second_part, second_replaced}
 use Rattle.coefficients.proofs.active_filter.Goals as goal
-
-pub scale_row-requires : goal.scale_row-requires
-scale_row-requires c = rw c.row_of_set-num.ensures (simp length-take (omega arith))
-
-pub slice_bounds-c-end-2 : goal.slice_bounds-c-end-2
-slice_bounds-c-end-2 c = simp length-append (omega (arith, c.scale_row.auto.c))
-
-pub scale_row-requires-2 : goal.scale_row-requires-2
-scale_row-requires-2 c =
-    rw (second_part c.scale_row.new.c _ c.scale_row.auto.c refl, c.row_of_set-den.ensures)
-    (simp length-take (omega arith))
 
 pub returns : goal.returns
 unfolding filter_of of_bits round

@@ -1,18 +1,9 @@
 -- `scale_row`: the row so far, scaled, stands in front of the entries not yet replaced.
-use Prim.Native.Nat.{ℕ, ◌-◌, ◌≤◌}
-use mathlib.Core.Path.{◌≡◌}
-use mathlib.Core.List.{List, ◌++◌, map}
 use lib.ListN.{length, take, drop}
-use lib.Ieee.{Float}
+use mathlib.Core.List.{map}
+use mathlib.Core.Path.{◌≡◌}
 use Rattle.floats.specs.Single.{◌⊗◌}
 use Rattle.coefficients.proofs.scale_row.Given as goal
 
--- the first k entries scaled, and the rest as it was
-unfoldable pub scaled_to_lem : Float → List Float → List Float → ℕ → List Float
-scaled_to_lem gain row c k = map (λ e. gain ⊗ e) (take k row) ++ drop k c
-
 abbrev pub invariant-loop-k : goal.invariant-loop-k
-invariant-loop-k l = (l.k ≤ l.k-end) × (l.k-end ≡ length l.row) × (length l.c ≡ length l.initial.c) × (l.c ≡ scaled_to_lem l.gain l.row l.initial.c l.k)
-
-abbrev pub decreases-loop-k : goal.decreases-loop-k
-decreases-loop-k l = l.k-end - l.k
+invariant-loop-k l = (length l.c ≡ length l.initial.c) × (take l.k l.c ≡ map (λ e. l.gain ⊗ e) (take l.k l.row)) × (drop l.k l.c ≡ drop l.k l.initial.c)

@@ -1,14 +1,10 @@
 -- `interleave` copies a sample of each ear back a turn.
-use Prim.Native.Nat.{ℕ, ◌+◌, ◌*◌, ◌≤◌}
-use mathlib.Core.Path.{◌≡◌, ◌∙◌}
-use mathlib.Core.List.{List}
-use native.Mathlib.Omega.{arith}
-use lib.ListN.{length, take, drop, length-set, length-drop}
+use Rattle.std.proofs.Common.{ℕ, List, Float, ◌+◌, ◌*◌, ◌≤◌, ◌≡◌, ◌∙◌, length, take, drop, arith}
+use lib.ListN.{length-drop}
 use lib.Seq.{length-take-le, get_or-take, get_or-drop}
-use lib.Ieee.{Float, nan}
+use lib.Ieee.{nan}
 use Rattle.slices.proofs.Pasted.{none_pasted}
 use Rattle.interleave.proofs.Buffers.{pair_pasted, pairs_pasted}
-use borrow.Author.Rules.{rules}
 use Rattle.interleave.proofs.interleave.Goals as goal
 
 -- a part of an array that holds it
@@ -16,7 +12,7 @@ part_long : (n at : ℕ) (l : List Float) → at + n ≤ length l → length (ta
 part_long n at l h = length-take-le n (drop at l) (simp length-drop (omega arith))
 
 pub loop-i-init : goal.loop-i-init
-loop-i-init c = (search rules, search rules, none_pasted c.args.samples.now 0 _)
+loop-i-init c = none_pasted c.args.samples.now 0 _
 
 pub loop-i-preserved : goal.loop-i-preserved
 loop-i-preserved c =
@@ -25,18 +21,15 @@ loop-i-preserved c =
     let i = c.loop-i.i in
     let l = take a.nf (drop a.left_at a.left.now) in
     let r = take a.nf (drop a.right_at a.right.now) in
-    let left = get_or-take a.nf (drop a.left_at a.left.now) i nan (search rules) ∙ get_or-drop a.left_at a.left.now i nan in
-    let right = get_or-take a.nf (drop a.right_at a.right.now) i nan (search rules) ∙ get_or-drop a.right_at a.right.now i nan in (
-      search rules,
-      simp length-set (omega arith),
-      rw c.loop-i.invariant.2
-          (rw (left, right) at (pair_pasted l r a.nf (part_long a.nf a.left_at a.left.now s.1) (part_long a.nf a.right_at a.right.now s.2) a.samples.now i s.0 (search rules))),
-    )
+    let left = get_or-take a.nf (drop a.left_at a.left.now) i nan (omega arith) ∙ get_or-drop a.left_at a.left.now i nan in
+    let right = get_or-take a.nf (drop a.right_at a.right.now) i nan (omega arith) ∙ get_or-drop a.right_at a.right.now i nan in
+    rw c.loop-i.invariant
+    (rw (left, right) at (pair_pasted l r a.nf (part_long a.nf a.left_at a.left.now s.1) (part_long a.nf a.right_at a.right.now s.2) a.samples.now i s.0 (omega arith)))
 
 pub returns : goal.returns
 returns c =
     let a = c.args in
     let s = c.requires in
     let e : 2 * c.loop-i.i ≡ 2 * a.nf = omega arith in
-    rw e at c.loop-i.invariant.2
+    rw e at c.loop-i.invariant
     ∙ pairs_pasted _ _ a.nf (part_long a.nf a.left_at a.left.now s.1) (part_long a.nf a.right_at a.right.now s.2) a.samples.now s.0

@@ -1,10 +1,7 @@
 -- `three_sums` takes two terms a turn, and the last by itself where their number is odd.
-use Prim.Native.Nat.{◌-◌, ◌*◌, ◌≤◌}
+use Rattle.std.proofs.Common.{◌*◌}
 use Rattle.lanes.specs.Lanes.{Summed}
 use Rattle.lanes.proofs.three_sums.Given as goal
 
 abbrev pub invariant-loop-m : goal.invariant-loop-m
-invariant-loop-m l = (l.m ≤ l.pairs) × Summed l.a l.x l.i l.j l.k (2 * l.m) l.s
-
-abbrev pub decreases-loop-m : goal.decreases-loop-m
-decreases-loop-m l = l.pairs - l.m
+invariant-loop-m l = Summed l.a l.x l.i l.j l.k (2 * l.m) l.s

@@ -1,12 +1,11 @@
--- `pump` goes on until all of its input is taken: each turn takes at least a byte.
-use Prim.Native.Nat.{◌-◌, ◌≤◌}
-use mathlib.Core.Path.{◌≡◌}
-use lib.ListN.{length, take}
-use Rattle.listing.specs.Machine.{after}
+-- `pump` goes on until nothing of its input is left: each turn takes at least a byte.
+use Rattle.std.proofs.Common.{◌≡◌, length}
+use Rattle.lines.specs.Listings.{rules_of}
+use Rattle.lines.specs.Calls.{after}
 use Rattle.listing_stream.proofs.pump.Given as goal
 
-abbrev pub invariant-loop-at : goal.invariant-loop-at
-invariant-loop-at l = (l.at ≤ length l.input) × (length l.out ≡ length l.initial.out) × (l.listing ≡ after l.initial.listing (take l.at l.input))
+abbrev pub invariant-loop-rest : goal.invariant-loop-rest
+invariant-loop-rest g l = after (rules_of g.S.State.rows) l.fn.from l.input ≡ after (rules_of g.S.State.rows) l.listing l.rest
 
-abbrev pub decreases-loop-at : goal.decreases-loop-at
-decreases-loop-at l = length l.input - l.at
+abbrev pub decreases-loop-rest : goal.decreases-loop-rest
+decreases-loop-rest g l = length l.rest

@@ -1,12 +1,8 @@
 -- `put_row` writes one sample a turn.
-use Prim.Native.Nat.{◌+◌, ◌-◌, ◌*◌, ◌≤◌}
-use mathlib.Core.Path.{◌≡◌}
+use Rattle.std.proofs.Common.{◌≡◌, ◌+◌, ◌*◌}
 use Rattle.floats.specs.Single.{at}
 use Rattle.slices.specs.Written.{written}
 use Rattle.resampling.proofs.put_row.Given as goal
 
 abbrev pub invariant-loop-b : goal.invariant-loop-b
-invariant-loop-b l = (l.b ≤ 16) × (l.rows ≡ written l.initial.rows l.to (λ b. at l.x (l.from + l.step * b)) l.b)
-
-abbrev pub decreases-loop-b : goal.decreases-loop-b
-decreases-loop-b l = 16 - l.b
+invariant-loop-b l = l.rows ≡ written l.initial.rows l.to (λ b. at l.x (l.from + l.step * b)) l.b

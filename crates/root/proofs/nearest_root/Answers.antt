@@ -1,11 +1,11 @@
 -- `root::nearest_root` meets its contract: the whole root is rounded by what it leaves over. Assumes nothing.
 use mathlib.Core.Path.{◌≡◌}
-use Prim.Native.Nat.{ℕ, ◌%◌, ◌^◌, ◌≤◌, ◌<◌}
+use Prim.Native.Nat.{ℕ, ◌%◌, ◌^◌, ◌<◌}
 use native.Mathlib.Nat.{mod-eq_of_lt}
 use native.Mathlib.Numerals.{add-one}
 use native.Mathlib.Omega.{arith}
 use Rattle.root.specs.Steps.{WholeRoot, Normalised}
-use Rattle.root.proofs.Midpoint.{scaled, scaled_range, root_range, round_up, round_down}
+use Rattle.root.proofs.Midpoint.{scaled, scaled_range, round_up, round_down}
 use Rattle.root.proofs.nearest_root.Goals as goal
 
 -- the shift loses nothing
@@ -18,26 +18,8 @@ shifted a m k norm = rw (unshifted a m k norm) (scaled_range a m k norm).1
 whole : (a m k q : ℕ) → Normalised a m k → WholeRoot (scaled m k % 2 ^ 64) q → WholeRoot (scaled m k) q
 whole a m k q norm w = rw (← unshifted a m k norm) w
 
-range : (a m k q : ℕ) → Normalised a m k → WholeRoot (scaled m k % 2 ^ 64) q → (2 ^ 23 ≤ q) × (q < 2 ^ 24)
-range a m k q norm w = root_range (scaled m k) q (scaled_range a m k norm).0 (scaled_range a m k norm).1 (whole a m k q norm w)
-
 pub whole_root-q-requires : goal.whole_root-q-requires
 whole_root-q-requires c = shifted _ c.normalised-s.result.significand c.normalised-s.result.exponent c.normalised-s.ensures
-
-pub overflow_cast-below : goal.overflow_cast-below
-overflow_cast-below c =
-    let s = c.normalised-s in
-    omega (arith, range _ s.result.significand s.result.exponent c.whole_root-q.result s.ensures c.whole_root-q.ensures)
-
-pub overflow_add-below : goal.overflow_add-below
-overflow_add-below c =
-    let s = c.normalised-s in
-    omega (arith, range _ s.result.significand s.result.exponent c.whole_root-q.result s.ensures c.whole_root-q.ensures, s.ensures.small)
-
-pub overflow_add-result : goal.overflow_add-result
-overflow_add-result c =
-    let s = c.normalised-s in
-    omega (arith, range _ s.result.significand s.result.exponent c.whole_root-q.result s.ensures c.whole_root-q.ensures, s.ensures.small)
 
 pub returns-then-q-n : goal.returns-then-q-n
 returns-then-q-n c =

@@ -21,16 +21,6 @@ lifted_back a u e h =
 pub overflow_sub-up : goal.overflow_sub-up
 overflow_sub-up c = omega (arith, (up c.args.a (search rules) (search rules)).1)
 
-pub overflow_shl-result : goal.overflow_shl-result
-overflow_shl-result c =
-    let u = up c.args.a (search rules) (search rules) in
-    omega (arith, u.1, u.2)
-
-pub overflow_sub-result : goal.overflow_sub-result
-overflow_sub-result c =
-    let u = up c.args.a (search rules) (search rules) in
-    omega (arith, u.1, u.2)
-
 pub returns-then-field-eq0 : goal.returns-then-field-eq0
 returns-then-field-eq0 c =
     let u = up c.args.a (search rules) (search rules) in

@@ -8,7 +8,7 @@ use lib.Dec.{T}
 use lib.Ieee.{Float, nan, inf, fin, binary32, fits, is_nan, to_bits, of_bits}
 use lib.Ieee.Positive.{positive, above}
 use Rattle.root.specs.SquareRoot.{root_square, root_bits, root_of}
-use Rattle.root.specs.declared.Root.TheVariants.{Root as found}
+use Rattle.std.proofs.Common.{Some}
 use Rattle.root.proofs.Nearest.{nearest_unique}
 use Rattle.root.proofs.Search.{root_bits_nearest}
 use Rattle.root.proofs.Floats.{pattern_no_nan, positive_pattern, positive_root}
@@ -27,9 +27,13 @@ infinite_or_not (inf false) p = inl refl
 infinite_or_not (fin true m e) p = absurd p
 infinite_or_not (fin false m e) p = inr p
 
-infinity : (to_bits binary32 (inf false) ≡ 0x7f80_0000) × (root_of (inf false) ≡ found (inf false))
+infinity : (to_bits binary32 (inf false) ≡ 0x7f80_0000) × (root_of (inf false) ≡ Some (inf false))
 unfolding to_bits root_of
 infinity = (refl, refl)
+
+-- a float above zero that has not the pattern of +infinity is finite
+finite : (x : Float) → T (above x) → (to_bits binary32 x ≡ 0x7f80_0000 → ⊥) → T (positive x)
+finite x p h = ⊎_elim (λ e. absurd (h (ap (to_bits binary32) e ∙ infinity.0))) (λ q. q) (infinite_or_not x p)
 
 pub float_to_bits-a : goal.float_to_bits-a
 float_to_bits-a c = no_nan c.args.x c.requires
@@ -45,9 +49,7 @@ pub nearest_root-requires : goal.nearest_root-requires
 nearest_root-requires c =
     let held : T (fits binary32 c.args.x) =
     subst T (sym c.well_formed.0.1) tt in
-    let is_positive : T (positive c.args.x) =
-    ⊎_elim (λ e. absurd (c.if-a-eq-INFINITY.false (ap (to_bits binary32) e ∙ infinity.0))) (λ p. p) (infinite_or_not c.args.x c.requires) in
-    positive_pattern c.args.x held is_positive
+    positive_pattern c.args.x held (finite c.args.x c.requires c.if-a-eq-INFINITY.false)
 
 pub float_from_bits-result : goal.float_from_bits-result
 float_from_bits-result c = rw (pattern_no_nan c.nearest_root.result c.nearest_root.ensures.finite) tt
@@ -56,10 +58,8 @@ pub returns : goal.returns
 returns c =
     let held : T (fits binary32 c.args.x) =
     subst T (sym c.well_formed.0.1) tt in
-    let is_positive : T (positive c.args.x) =
-    ⊎_elim (λ e. absurd (c.if-a-eq-INFINITY.false (ap (to_bits binary32) e ∙ infinity.0))) (λ p. p) (infinite_or_not c.args.x c.requires) in
     let x = c.args.x in
     let a = to_bits binary32 x in
-    let p = is_positive in
+    let p = finite x c.requires c.if-a-eq-INFINITY.false in
     let r = positive_pattern x held p in
-    positive_root x p ∙ ap (λ (b : ℕ). found (of_bits binary32 b)) (nearest_unique (root_square a) (root_bits a) c.nearest_root.result (root_bits_nearest a r.0 r.1) c.nearest_root.ensures)
+    positive_root x p ∙ ap (λ (b : ℕ). Some (of_bits binary32 b)) (nearest_unique (root_square a) (root_bits a) c.nearest_root.result (root_bits_nearest a r.0 r.1) c.nearest_root.ensures)

@@ -10,14 +10,14 @@ use lib.Ieee.Fits.{up_pos, and_l}
 use lib.Ieee.Positive.{above, first_pos}
 use borrow.Author.Tests.{ltb-true, ltb-false}
 use Rattle.root.specs.SquareRoot.{root_of}
-use Rattle.root.specs.declared.Root.TheVariants.{Root as found, NoRoot}
+use Rattle.std.proofs.Common.{Some, None}
 use Rattle.root.proofs.sqrt.Goals as goal
 
 -- the constant 0.0
 abbrev nought : Float
 nought = of_bits binary32 0
 
-equals_zero : (x : Float) → eq x nought ≡ true → root_of x ≡ found x
+equals_zero : (x : Float) → eq x nought ≡ true → root_of x ≡ Some x
 unfolding eq of_bits root_of
 equals_zero nan h = absurd (false≢true h)
 equals_zero (inf s) h = absurd (false≢true h)
@@ -35,7 +35,7 @@ above_zero (inf false) h = tt
 above_zero (fin true m e) h = absurd (false≢true h)
 above_zero (fin false m e) h = lt→ltb 0 m (first_pos m (up e) (omega (arith, ltb-true (0 * down e) (m * up e * 1) h)))
 
-neither : (x : Float) → eq x nought ≡ false → lt nought x ≡ false → root_of x ≡ NoRoot
+neither : (x : Float) → eq x nought ≡ false → lt nought x ≡ false → root_of x ≡ None
 unfolding eq lt of_bits root_of
 neither nan h k = refl
 neither (inf true) h k = refl

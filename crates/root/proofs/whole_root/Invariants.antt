@@ -3,7 +3,4 @@ use Prim.Native.Nat.{◌+◌, ◌*◌, ◌^◌, ◌≤◌, ◌<◌}
 use Rattle.root.proofs.whole_root.Given as goal
 
 abbrev pub invariant-loop-d : goal.invariant-loop-d
-invariant-loop-d l = (l.d ≤ 24) × (l.q + 2 ^ l.d ≤ 2 ^ 24) × (l.q * l.q ≤ l.n) × (l.n < (l.q + 2 ^ l.d) * (l.q + 2 ^ l.d))
-
-abbrev pub decreases-loop-d : goal.decreases-loop-d
-decreases-loop-d l = l.d
+invariant-loop-d l = (l.q + 2 ^ l.d ≤ 2 ^ 24) × (l.q * l.q ≤ l.n) × (l.n < (l.q + 2 ^ l.d) * (l.q + 2 ^ l.d))

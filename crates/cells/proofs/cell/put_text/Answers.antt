@@ -1,14 +1,10 @@
 -- `put_text` copies where the text fits.
-use mathlib.Core.Path.{refl}
-use native.Mathlib.Omega.{arith}
-use Rattle.cells.proofs.Stores.{put_written, put_nothing}
+use Rattle.std.proofs.Common.{refl, ◌∙◌, sym}
+use Rattle.std.proofs.lemmas.Bool.{leb-true}
+use Rattle.cells.proofs.Stores.{put_written, placed_sets}
 use Rattle.cells.proofs.cell.put_text.Goals as goal
 
-pub returns-then-text-out : goal.returns-then-text-out
-returns-then-text-out c = put_nothing _ _ _ _ (omega arith)
-
-pub returns-then-at-out : goal.returns-then-at-out
-returns-then-at-out c = put_nothing _ _ _ _ (omega arith)
-
 pub returns : goal.returns
-returns c = put_written (omega arith) (record { stored = c.copy.ensures; ends = refl })
+returns c =
+    let h = leb-true _ _ (sym c.fits.ensures ∙ c.if-not-fits.false) in
+    put_written h (record { stored = c.put.ensures ∙ placed_sets _ _ _ h; ends = refl })

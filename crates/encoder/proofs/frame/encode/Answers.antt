@@ -24,7 +24,7 @@ use Rattle.encoder.proofs.frame.encode.Goals as goal
 
 pub next-encoder-requires : goal.next-encoder-requires
 next-encoder-requires c =
-    let facts : Judged c.args.e c.args.c c.args.resampling.now c.args.correlation.now c.args.signal.now c.args.frame.now =
+    let facts : Judged c.args.e c.args.c c.args.set.resampling.now c.args.set.correlation.now c.args.set.signal.now c.args.frame.now =
     judged_facts _ _ _ _ _ _ _ c.requires in
     facts.samples.1
 
@@ -42,11 +42,11 @@ joined e c r k s frame nbits near x y z h d f u t a g i m n o = rw (o, n, t, m, 
 pub returns : goal.returns
 unfolding at_rate at6p4 laid of_bits
 returns c =
-    let facts : Judged c.args.e c.args.c c.args.resampling.now c.args.correlation.now c.args.signal.now c.args.frame.now =
+    let facts : Judged c.args.e c.args.c c.args.set.resampling.now c.args.set.correlation.now c.args.set.signal.now c.args.frame.now =
     judged_facts _ _ _ _ _ _ _ c.requires in
     let a = c.args in
     let j = facts in
     c.done.ensures ∙ ap (λ (n : Encoder). done_frame c.found_in-found.result n) c.next-encoder.ensures
-    ∙ joined a.e a.c a.resampling.now a.correlation.now a.signal.now a.frame.now a.nbits a.near_nyquist _ _ _ _ _ _
+    ∙ joined a.e a.c a.set.resampling.now a.set.correlation.now a.set.signal.now a.frame.now a.nbits a.near_nyquist _ _ _ _ _ _
     (step_usable _ _ _ j.row j.set.0) (within_same _ j.lag.0 j.lag.1) c.at_rate.ensures c.at_12p8-h50.ensures.after c.at_12p8-h50.ensures.signal c.at_6p4.ensures
     c.pitch_detection-detected.ensures c.found_in-found.ensures

@@ -1,11 +1,7 @@
--- `fade_factor` is one division, and a difference from 1.0 for the way out.
+-- `fade_factor` is a difference from 1.0 for the way out.
 use lib.Ieee.{of_bits, of_int}
 use Rattle.filter.specs.Fade.{factor}
 use Rattle.filter.proofs.fade.fade_factor.Goals as goal
-
-pub returns-in-In : goal.returns-in-In
-unfolding factor
-returns-in-In c = rw c.in-In.is
 
 pub returns-in-Out : goal.returns-in-Out
 unfolding factor of_bits of_int

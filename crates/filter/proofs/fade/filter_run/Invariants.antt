@@ -1,18 +1,13 @@
 -- `filter_run` makes outputs in blocks of eight, the last of which may begin inside the one before it.
-use Prim.Native.Nat.{◌+◌, ◌-◌, ◌*◌, ◌/◌, ◌≤◌, min}
+use Prim.Native.Nat.{◌+◌, ◌-◌, ◌*◌, min}
 use mathlib.Core.Path.{◌≡◌}
 use lib.ListN.{length}
 use Rattle.filter.specs.Fade.{grown}
 use Rattle.filter.specs.Blocks.{next_in, padded}
-use Rattle.coefficients.specs.Coefficients.{Filter}
-use Rattle.filter.proofs.EightLanes.{Usable, used_num, used_den, nearest}
+use Rattle.filter.specs.Kept.{kept_as}
 use Rattle.filter.proofs.fade.filter_run.Given as goal
 
 abbrev pub invariant-loop-b : goal.invariant-loop-b
 invariant-loop-b l =
-    (l.b ≤ l.b-end) × (l.b-end ≡ (l.len + 7) / 8) × (length l.y ≡ length l.initial.y)
-    × ((t : Filter) → Usable t l.history → l.num ≡ used_num t → l.den ≡ used_den t → l.back ≡ nearest t →
-    l.y ≡ grown (next_in l.weighting l.history l.fade t (padded (l.history - 16) l.x)) l.initial.y (l.history + l.from) (min (8 * l.b) l.len))
-
-abbrev pub decreases-loop-b : goal.decreases-loop-b
-decreases-loop-b l = l.b-end - l.b
+    (length l.y ≡ length l.initial.y)
+    × (l.y ≡ grown (next_in l.fading l.history l.fade (kept_as l.fn.filter) (padded (l.history - 16) l.x)) l.initial.y (l.history + l.from) (min (8 * l.b) l.len))

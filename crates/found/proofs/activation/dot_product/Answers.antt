@@ -11,7 +11,7 @@ use mir.Val.{to_z, of_z}
 use Rattle.found.specs.Activation.{dotted}
 use Rattle.found.specs.Taps.{moved as moved_by}
 use Rattle.found.proofs.Signs.{read_back, offset_read, neg_read}
-use Rattle.found.proofs.Turns.{passed, Turn, in_turn_lem, all_turns, back_turn}
+use Rattle.found.proofs.Turns.{passed, Turn, in_turn, back_turn}
 use Rattle.found.proofs.activation.dot_product.Goals as goal
 
 -- the entry that a tap reads
@@ -28,13 +28,8 @@ pub loop-k-preserved : goal.loop-k-preserved
 unfolding dotted
 loop-k-preserved c =
     let x = c.loop-k in
-    let t = in_turn_lem 1 (to_z w32 x.k-bits) (omega arith) x.invariant.0 x.invariant.1 c.loop-k-test.true in
+    let t = in_turn 1 (to_z w32 x.k-bits) (omega arith) x.invariant.0 x.invariant.1 c.loop-k-test.true in
     let d : mag (to_z w32 (of_z w32 c.args.d)) ≤ 3 = rw (read_back c.args.d (omega (arith, c.requires))) c.requires.2 in
     let o = offset_read c.table_offset-h_i_index.result (to_z w32 x.k-bits) (to_z w32 (of_z w32 c.args.d)) c.table_offset-h_i_index.ensures (omega (arith, t.size)) d in
     let p = place c.args.at c.moved.result (to_z w32 x.k-bits) c.requires.0 t c.moved.ensures in
     (t.again, omega (arith, t.next, t.over), c.with_tap-result.ensures ∙ rw (t.next, ← t.number, ← o.0, ← p.0, ← x.invariant.2))
-
-pub returns : goal.returns
-returns c =
-    let x = c.loop-k in
-    x.invariant.2 ∙ rw (all_turns 1 (to_z w32 x.k-bits) (omega arith) x.invariant.0 x.invariant.1 c.loop-k-test.false, read_back c.args.d (omega (arith, c.requires)))

@@ -1,5 +1,5 @@
 -- `nc_sums` adds one product to each sum a turn.
-use Prim.Native.Nat.{◌-◌, ◌≤◌}
+use Prim.Native.Nat.{◌≤◌}
 use mathlib.Core.Path.{◌≡◌}
 use Rattle.lanes.specs.Sums.{product_sum}
 use Rattle.found.specs.Activation.{no_delay, shifted}
@@ -11,6 +11,3 @@ invariant-loop-n l =
     × (l.nc_numerator ≡ product_sum (no_delay l.x l.start l.signal) (shifted l.x l.start l.pitch_int l.pitch_fr l.signal) l.n)
     × (l.no_delay_total ≡ product_sum (no_delay l.x l.start l.signal) (no_delay l.x l.start l.signal) l.n)
     × (l.shifted_total ≡ product_sum (shifted l.x l.start l.pitch_int l.pitch_fr l.signal) (shifted l.x l.start l.pitch_int l.pitch_fr l.signal) l.n)
-
-abbrev pub decreases-loop-n : goal.decreases-loop-n
-decreases-loop-n l = l.len12p8 - l.n

@@ -1,5 +1,5 @@
 -- `fraction` looks at one fraction a turn.
-use Prim.Native.Nat.{◌-◌, ◌≤◌}
+use Prim.Native.Nat.{◌≤◌}
 use mathlib.Core.Path.{◌≡◌}
 use Rattle.found.specs.LagParameter.{fraction_search}
 use Rattle.found.specs.Taps.{turn}
@@ -12,6 +12,3 @@ invariant-loop-d l =
     × (passed 3 l.d ≤ 7)
     × (l.pitch_fr ≡ (fraction_search l.r_12p8 l.entry l.pitch_int l.interpolation (passed 3 l.d)).place)
     × (l.interp_d_max ≡ (fraction_search l.r_12p8 l.entry l.pitch_int l.interpolation (passed 3 l.d)).value)
-
-abbrev pub decreases-loop-d : goal.decreases-loop-d
-decreases-loop-d l = 7 - passed 3 l.d

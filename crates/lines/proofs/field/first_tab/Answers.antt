@@ -1,34 +1,28 @@
 -- `first_tab` passes over bytes that are no tab.
-use Prim.Native.Nat.{ℕ, ◌<◌, ◌+◌}
-use mathlib.Core.Path.{◌≡◌, sym, ◌∙◌}
-use mathlib.Core.List.{List}
+use Prim.Native.Nat.{ℕ, ◌+◌}
+use mathlib.Core.Path.{◌≡◌, refl}
+use mathlib.Core.List.{List, ◌∷◌}
 use native.Mathlib.Numerals.{add-one}
-use native.Mathlib.Nat.{add-zero}
-use native.Mathlib.Omega.{arith}
 use borrow.Author.Rules.{rules}
-use borrow.Author.Tests.{eq-eqb, ne_eqb}
-use lib.ListN.{drop, get_or, length}
-use lib.Seq.{drop-cons, drop-length}
+use borrow.Author.Tests.{tests, eq-eqb, ne_eqb}
+use Rattle.std.proofs.Common.{length, unwrap_or}
+use Rattle.std.proofs.lemmas.Iterator.{YieldsList-from_slice, IsFirst-from_position, index_from_first}
 use Rattle.lines.specs.Fields.{byte_at, tab_at}
 use Rattle.lines.proofs.field.first_tab.Goals as goal
 
--- at byte i: a tab, or one byte further
-here : (s : List ℕ) (i : ℕ) → i < length s → get_or s i 0 ≡ 9 → tab_at (drop i s) ≡ 0
+here : (x : ℕ) (xs : List ℕ) → x ≡ 9 → tab_at (x ∷ xs) ≡ 0
 unfolding byte_at
-here s i h e = rw (drop-cons s i 0, eq-eqb _ _ e)
+here x xs e = rw (eq-eqb _ _ e)
 
-further : (s : List ℕ) (i : ℕ) → i < length s → (get_or s i 0 ≡ 9 → ⊥) → i + tab_at (drop i s) ≡ (i + 1) + tab_at (drop (i + 1) s)
+further : (x : ℕ) (xs : List ℕ) → (x ≡ 9 → ⊥) → tab_at (x ∷ xs) ≡ tab_at xs + 1
 unfolding byte_at
-further s i h n = rw (drop-cons s i 0, ne_eqb _ _ n, add-one) (omega arith)
-
-pub returns-then-line-i-eq9 : goal.returns-then-line-i-eq9
-returns-then-line-i-eq9 c = sym (c.loop-i.invariant.2 ∙ rw (here _ _ c.loop-i-test.true c.if-line-i-eq9.true, add-zero))
-
-pub loop-i-preserved : goal.loop-i-preserved
-loop-i-preserved c = (search rules, search rules, c.loop-i.invariant.2 ∙ further _ _ c.loop-i-test.true c.if-line-i-eq9.false)
+further x xs n = rw (ne_eqb _ _ n, add-one)
 
 pub returns : goal.returns
 unfolding byte_at
 returns c =
-    let e : c.loop-i.i ≡ length c.args.line.now = omega arith in
-    sym (c.loop-i.invariant.2 ∙ rw (e, drop-length, add-zero))
+    let found = IsFirst-from_position _ _ c.position.result (λ x. x ≡ 9) (λ x. x ≡ 9 → ⊥) c.position.ensures.ran (YieldsList-from_slice c.args.line.now c.iter.ensures.rest)
+    (λ x q k. search (rules, tests)) (λ x q k. search (rules, tests)) in
+    let first : tab_at c.args.line.now ≡ unwrap_or c.position.result (length c.args.line.now) =
+    index_from_first tab_at (λ x. x ≡ 9) (λ x. x ≡ 9 → ⊥) refl here further c.args.line.now c.position.result found in
+    cc

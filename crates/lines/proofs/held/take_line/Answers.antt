@@ -1,13 +1,12 @@
 -- `take_line` holds byte after byte; what it is to give follows at each turn from what is held and what is left.
 use Prim.Native.Nat.{ℕ, ◌+◌, ◌≤◌, ◌<◌}
-use mathlib.Core.Path.{◌≡◌, refl, sym, ◌∙◌}
+use mathlib.Core.Path.{◌≡◌, sym, ◌∙◌}
 use mathlib.Core.List.{List}
 use native.Mathlib.Numerals.{add-one}
 use native.Mathlib.Nat.{add-zero, add-suc, suc-add}
 use borrow.Author.Tests.{eq-eqb, ne_eqb, lt-ltb, le-ltb}
 use lib.ListN.{length, drop, get_or, set, length-set, drop_of_length-le}
 use lib.Seq.{drop-cons}
-use borrow.Author.Rules.{rules}
 use Rattle.lines.specs.Fields.{byte_at}
 use Rattle.lines.specs.Machine.{held_step, held_after, line_taken}
 use Rattle.lines.specs.declared.held.Held.{Held}
@@ -47,15 +46,18 @@ again : (t : Taken) (bytes bytes' : List ℕ) (len len' : ℕ) (s : List ℕ) (i
     t ≡ line_taken (holding bytes' len') (drop (i + 1) s) (i + 1)
 again t bytes bytes' len len' s i e l n p = e ∙ rw (← p) (further (holding bytes len) s i l n)
 
-pub loop-at-init : goal.loop-at-init
-loop-at-init c = (search rules, refl)
-
 pub returns-then-b-eq10 : goal.returns-then-b-eq10
-returns-then-b-eq10 c = sym (c.loop-at.invariant.1 ∙ here _ _ _ c.loop-at-test.true c.if-b-eq10.true)
+returns-then-b-eq10 c = sym (c.loop-at.invariant.left ∙ here _ _ _ c.loop-at-test.true c.if-b-eq10.true)
 
 pub loop-at-preserved : goal.loop-at-preserved
 loop-at-preserved c =
-    (grind (arith, length-set, c.loop-at.invariant.0), grind (arith, again, kept, passed, c.loop-at.invariant.1, c.loop-at-test.true, c.if-b-eq10.false))
+    record {
+      size = grind (arith, length-set, c.loop-at.invariant.size);
+      within = omega arith;
+      left = grind (arith, again, kept, passed, c.loop-at.invariant.left, c.loop-at-test.true, c.if-b-eq10.false);
+    }
 
 pub returns : goal.returns
-returns c = sym (c.loop-at.invariant.1 ∙ done _ _ _ c.loop-at-test.false)
+returns c =
+    let all : c.max.result ≡ c.loop-at.at = omega (arith, c.max.ensures, c.loop-at.invariant.within) in
+    rw all (sym (c.loop-at.invariant.left ∙ done _ _ _ c.loop-at-test.false))

@@ -8,8 +8,8 @@ pub returns : goal.returns
 returns c =
     rw (
       c.answer_word.ensures,
-      c.as_flag-active.ensures,
-      c.as_flag-gain_on.ensures,
+      c.as_flag.ensures,
+      c.as_flag-2.ensures,
       to_z-of_z w32 c.tell-frame.result.rounding (search (rules, c.struct_told-1.given.1.1.1.1.1)),
       c.tell-frame.ensures,
       c.side_from-side.ensures,

@@ -17,7 +17,7 @@ returns-in-Inactive c =
     let config = c.args.plan.config in
     let e : c.args.start + config.nf - c.args.start ≡ config.nf = omega arith in
     let frame = block_at config c.args.start c.args.x_hat_mem.now in (
-      no_filter_lem c.args.plan c.args.numerators.now c.args.denominators.now (c.requires.idle told),
+      no_filter_lem c.args.plan c.args.set.numerators.now c.args.set.denominators.now (c.requires.idle told),
       rw e at c.put.ensures
           ∙ placed_stored c.args.x_hat_ltpf_mem.now frame c.args.start (omega (arith, f, frame_long f))
           ∙ rw (told, ← untouched (rw told at f) frame),

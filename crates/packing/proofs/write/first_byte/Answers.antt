@@ -13,18 +13,6 @@ weight : (on : Bool) → (64 * bool_byte on ≡ cond on 64 0) × (bool_byte on �
 weight true = (omega arith, omega arith)
 weight false = (omega arith, omega arith)
 
-pub overflow_mul-result : goal.overflow_mul-result
-overflow_mul-result c = omega (arith, weight c.args.present.active)
-
-pub overflow_add-result : goal.overflow_add-result
-overflow_add-result c = omega (arith, weight c.args.present.active)
-
-pub overflow_add-result-2 : goal.overflow_add-result-2
-overflow_add-result-2 c = omega (arith, weight c.args.present.active, c.requires)
-
-pub overflow_cast-result : goal.overflow_cast-result
-overflow_cast-result c = omega (arith, weight c.args.present.active, c.requires)
-
 pub returns : goal.returns
 returns c =
     let p = c.args.present in

@@ -1,4 +1,5 @@
 -- `write_absent`: the form is one byte.
+use Rattle.std.proofs.Common.{None, Ok}
 use Prim.Native.Nat.{ℕ}
 use mathlib.Core.Path.{refl, sym, ap, ◌∙◌}
 use mathlib.Core.List.{List, [], ◌∷◌}
@@ -6,8 +7,6 @@ use borrow.Author.Rules.{rules}
 use borrow.Author.Tests.{lt-ltb}
 use lib.ListN.{length}
 use lib.Seq.{sets-eq}
-use Rattle.rates.specs.declared.answer.Answer.TheVariants.{Done}
-use Rattle.lag.specs.declared.pitch.Sent.TheVariants.{Absent}
 use Rattle.packing.specs.Bits.{bytes_of, value_of}
 use Rattle.packing.specs.Form.{form}
 use Rattle.packing.specs.Writings.{sent_writing}
@@ -15,13 +14,13 @@ use Rattle.packing.specs.declared.write.Writing.{Writing}
 use Rattle.packing.proofs.ByBytes.{written_over}
 use Rattle.packing.proofs.write.write_absent.Goals as goal
 
-pub returns-then-bytes-gt0 : goal.returns-then-bytes-gt0
-unfolding form bytes_of value_of
-returns-then-bytes-gt0 c =
-    let bytes : List ℕ = c.args.bytes.now in
-    ap {B = Writing × List ℕ} (λ (after : List ℕ). (record { answer = Done; written = 1 }, after)) (sets-eq (0 ∷ []) bytes 0 (search rules))
-    ∙ sym (written_over Absent (0 ∷ []) bytes refl refl (search rules))
-
 pub returns : goal.returns
+unfolding form bytes_of value_of
+returns c =
+    let bytes : List ℕ = c.args.bytes.now in
+    ap {B = Writing × List ℕ} (λ (after : List ℕ). (record { answer = (Ok tt); written = 1 }, after)) (sets-eq (0 ∷ []) bytes 0 (search rules))
+    ∙ sym (written_over None (0 ∷ []) bytes refl refl (search rules))
+
+pub returns-then-is_empty : goal.returns-then-is_empty
 unfolding sent_writing form bytes_of
-returns c = rw (c.refused.ensures, lt-ltb (length c.args.bytes.now) 1 (search rules))
+returns-then-is_empty c = rw (c.refused.ensures, lt-ltb (length c.args.bytes.now) 1 (search rules))

@@ -3,13 +3,12 @@ use Prim.Native.Nat.{ℕ, ◌<◌, ◌+◌}
 use mathlib.Core.Path.{◌≡◌, sym, ◌∙◌}
 use native.Mathlib.Numerals.{add-one}
 use native.Mathlib.Omega.{arith}
-use borrow.Author.Rules.{rules}
 use borrow.Author.Tests.{eq-eqb, ne_eqb}
 use lib.ListN.{drop, get_or}
 use lib.Seq.{drop-cons}
 use Rattle.rates.specs.Table.{rates, row, find}
 use Rattle.rates.specs.declared.table.Rate.{Rate}
-use Rattle.rates.specs.declared.table.FoundRate.TheVariants.{Row}
+use Rattle.std.proofs.Common.{Some}
 use Rattle.rates.proofs.table.row_of.Goals as goal
 
 -- what a lookup past the rows would read; no lookup does
@@ -17,7 +16,7 @@ abbrev none : Rate
 none = row 0 0 0 0 0 0 0 0
 
 -- a row of the rate is found, and a row of another is passed over
-found : (hz i : ℕ) → i < 6 → (get_or rates i none).hz ≡ hz → find hz (drop i rates) ≡ Row (get_or rates i none)
+found : (hz i : ℕ) → i < 6 → (get_or rates i none).hz ≡ hz → find hz (drop i rates) ≡ Some (get_or rates i none)
 unfolding find
 found hz i h e = rw (drop-cons rates i none, eq-eqb _ _ e)
 
@@ -26,11 +25,11 @@ unfolding find
 passed hz i h n = rw (drop-cons rates i none, ne_eqb _ _ n, add-one)
 
 pub returns-then-row-hz : goal.returns-then-row-hz
-returns-then-row-hz c = sym (c.loop-i.invariant.1 ∙ found _ _ c.loop-i-test.true c.if-row-hz.true)
+returns-then-row-hz c = sym (c.loop-row.invariant ∙ found _ _ c.loop-row-test.true c.if-row-hz.true)
 
-pub loop-i-preserved : goal.loop-i-preserved
-loop-i-preserved c = (search rules, c.loop-i.invariant.1 ∙ passed _ _ c.loop-i-test.true c.if-row-hz.false)
+pub loop-row-preserved : goal.loop-row-preserved
+loop-row-preserved c = c.loop-row.invariant ∙ passed _ _ c.loop-row-test.true c.if-row-hz.false
 
 pub returns : goal.returns
 unfolding find
-returns c = let e : c.loop-i.i ≡ 6 = omega arith in sym (c.loop-i.invariant.1 ∙ rw e)
+returns c = let e : c.loop-row.row-index ≡ 6 = omega arith in sym (c.loop-row.invariant ∙ rw e)

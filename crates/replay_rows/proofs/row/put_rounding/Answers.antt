@@ -6,17 +6,7 @@ use Rattle.cells.proofs.Stores.{written}
 use borrow.Author.Rules.{rules}
 use Rattle.replay_rows.proofs.row.put_rounding.Goals as goal
 
-pub returns-in-None : goal.returns-in-None
-returns-in-None c =
-    record {
-      cell_written = rw c.in-None.is (written c.put_dash.ensures.dash_put (omega arith));
-      next_within = omega arith;
-    }
-
-pub returns-in-Difference : goal.returns-in-Difference
-returns-in-Difference c =
-    let difference = rw (to_z-of_z w32 c.in-Difference.difference (search rules)) at c.put_signed.ensures.cell_put in
-    record {
-      cell_written = rw c.in-Difference.is (written difference (omega arith));
-      next_within = omega arith;
-    }
+pub returns-in-Some-clause-cell_written : goal.returns-in-Some-clause-cell_written
+returns-in-Some-clause-cell_written c =
+    let difference = rw (to_z-of_z w32 c.in-Some.difference (search rules)) at c.put_signed.ensures.cell_put in
+    rw c.in-Some.is (written difference (omega arith))

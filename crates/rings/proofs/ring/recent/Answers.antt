@@ -1,13 +1,9 @@
 -- `recent`: the past at the history's end, and the frame put after it.
 use Prim.Native.Nat.{◌-◌}
-use mathlib.Core.Path.{◌≡◌, sym}
+use mathlib.Core.Path.{◌≡◌}
 use native.Mathlib.Omega.{arith}
-use lib.Seq.{length-take-le}
 use Rattle.rings.proofs.MovingPast.{recently}
 use Rattle.rings.proofs.ring.recent.Goals as goal
-
-pub slice_bounds-put-end-2 : goal.slice_bounds-put-end-2
-slice_bounds-put-end-2 c = sym (length-take-le _ c.args.ring.now (omega arith))
 
 pub returns : goal.returns
 returns c =

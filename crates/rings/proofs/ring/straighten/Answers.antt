@@ -1,20 +1,7 @@
 -- `straighten`: three blocks, put one after the other.
-use mathlib.Core.Path.{sym}
 use native.Mathlib.Omega.{arith}
-use lib.Seq.{length-take-le}
 use Rattle.rings.proofs.MovingPast.{straightened}
 use Rattle.rings.proofs.ring.straighten.Goals as goal
-
-pub slice_bounds-put-end-2 : goal.slice_bounds-put-end-2
-slice_bounds-put-end-2 c = sym (length-take-le _ c.args.ring.now (omega arith))
-
-pub put-requires-2 : goal.put-requires-2
-put-requires-2 c =
-    omega (
-      arith,
-      length-take-le c.args.block_start_index c.args.ring.now (omega arith),
-      c.put.auto.into,
-    )
 
 pub returns : goal.returns
 returns c =

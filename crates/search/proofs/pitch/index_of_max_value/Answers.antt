@@ -5,16 +5,22 @@ use mathlib.Core.Path.{◌≡◌, refl}
 use mathlib.Core.Bool.{cond}
 use mathlib.Core.List.{List}
 use native.Mathlib.Numerals.{add-one}
-use lib.ListN.{length}
 use lib.Ieee.{Float, lt}
 use Rattle.floats.specs.Single.{at}
-use Rattle.search.specs.Pitch.{searched}
+use Rattle.std.proofs.Common.{[], ◌∷◌, Bor}
+use Rattle.std.specs.Prelude.{Option, None, option_copied, slice_get}
+use Rattle.search.specs.Pitch.{searched, index_of_max}
 use borrow.Author.Rules.{rules}
 use Rattle.search.proofs.pitch.index_of_max_value.Goals as goal
 
-pub returns-then-slice-eq0 : goal.returns-then-slice-eq0
+-- a list without a first entry
+none : (s : List Float) (r : Option (Bor Float)) → r ≡ None → option_copied r ≡ slice_get s 0 → 0 ≡ index_of_max s
 unfolding searched
-returns-then-slice-eq0 c = rw c.if-slice-eq0.true
+none [] r e f = refl
+none (x ∷ s) r e f = absurd (cc)
+
+pub returns-in_default : goal.returns-in_default
+returns-in_default c = none c.args.slice.now c.first.result c.in_default.is c.first.ensures.value
 
 pub loop-n-init : goal.loop-n-init
 unfolding searched
@@ -29,6 +35,3 @@ pub loop-n-preserved : goal.loop-n-preserved
 loop-n-preserved c =
     let m = moved c.args.slice.now c.loop-n.n in
     grind arith
-
-pub returns : goal.returns
-returns c = let e : c.loop-n.n ≡ length c.args.slice.now = omega arith in cc

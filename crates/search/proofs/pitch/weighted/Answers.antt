@@ -21,8 +21,8 @@ unfolding of_bits of_int round
 in_code k r = refl
 
 pub loop-k-preserved : goal.loop-k-preserved
-loop-k-preserved c = (search rules, search rules, fill_one _ _ _ _ (search rules) c.loop-k.invariant.2 (in_code _ _))
+loop-k-preserved c = (search rules, fill_one _ _ _ _ (search rules) c.loop-k.invariant.1 (in_code _ _))
 
 pub returns : goal.returns
 unfolding weighted
-returns c = filled _ _ 98 c.loop-k.k (search rules) (search rules) (search rules) c.loop-k.invariant.2
+returns c = filled _ _ 98 c.loop-k.k (search rules) (search rules) (search rules) c.loop-k.invariant.1

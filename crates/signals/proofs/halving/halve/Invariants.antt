@@ -1,12 +1,8 @@
 -- `halve` writes one sample a turn.
-use Prim.Native.Nat.{◌≤◌, ◌-◌}
 use mathlib.Core.Path.{◌≡◌}
 use Rattle.slices.specs.Written.{written}
 use Rattle.signals.specs.Halving.{halved}
 use Rattle.signals.proofs.halving.halve.Given as goal
 
 abbrev pub invariant-loop-m : goal.invariant-loop-m
-invariant-loop-m l = (l.m ≤ l.len6p4) × (l.out ≡ written l.initial.out 114 (halved l.x l.start) l.m)
-
-abbrev pub decreases-loop-m : goal.decreases-loop-m
-decreases-loop-m l = l.len6p4 - l.m
+invariant-loop-m l = l.out ≡ written l.initial.out 114 (halved l.x l.start) l.m

@@ -1,5 +1,4 @@
 -- `high_pass` filters one sample a turn: the samples ahead are still those that came in.
-use Prim.Native.Nat.{◌-◌, ◌≤◌}
 use mathlib.Core.Path.{◌≡◌}
 use lib.Ieee.{Float}
 use Rattle.lanes.specs.Sums.{window}
@@ -13,9 +12,5 @@ both a b = record { h50_minus1 = a; h50_minus2 = b }
 
 abbrev pub invariant-loop-n : goal.invariant-loop-n
 invariant-loop-n l =
-    (l.n ≤ l.len12p8)
-    × (both l.h50_minus1 l.h50_minus2 ≡ memories (both l.initial.h50_minus1 l.initial.h50_minus2) (window l.initial.x 276) l.n)
+    (both l.h50_minus1 l.h50_minus2 ≡ memories (both l.initial.h50_minus1 l.initial.h50_minus2) (window l.initial.x 276) l.n)
     × (l.x ≡ written l.initial.x 276 (passed (both l.initial.h50_minus1 l.initial.h50_minus2) (window l.initial.x 276)) l.n)
-
-abbrev pub decreases-loop-n : goal.decreases-loop-n
-decreases-loop-n l = l.len12p8 - l.n

@@ -1,0 +1,2 @@
+-- What the lengths lean on.
+pub mod Orders

@@ -1,7 +1,0 @@
--- `set_aside` puts the line at the front of a new one.
-use native.Mathlib.Omega.{arith}
-use Rattle.slices.proofs.Stored.{take_placed}
-use Rattle.filter.proofs.transition.set_aside.Goals as goal
-
-pub returns : goal.returns
-returns c = rw c.put.ensures (take_placed _ c.args.y.now (omega arith))

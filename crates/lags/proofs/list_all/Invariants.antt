@@ -1,5 +1,0 @@
--- `list_all` ends: its turns run out. Nothing has to hold from turn to turn.
-use Rattle.lags.proofs.list_all.Given as goal
-
-abbrev pub decreases-loop-turns : goal.decreases-loop-turns
-decreases-loop-turns l = l.turns

@@ -1,6 +1,0 @@
--- `add_scaled` reads eight samples in a row.
-use mathlib.Core.Path.{refl}
-use Rattle.lanes.proofs.add_scaled.Goals as goal
-
-pub returns : goal.returns
-returns c = refl

@@ -1,5 +1,0 @@
--- `skip` shows the refusal.
-use Rattle.replaying.proofs.step.skip.Goals as goal
-
-pub returns : goal.returns
-returns c = rw c.dashed_row.ensures
