@@ -14,7 +14,7 @@ use std::io::Read;
 use std::rt::Env;
 use std::str::from_utf8;
 
-// Where an input comes from: standard input, or a file that is open.
+// Where an input comes from: standard input, or a file that is open. Neither is the lack of the other, so this is no option.
 #[derive(Drop)]
 pub enum Source {
     Standard,

@@ -10,7 +10,7 @@ use encoder::state::Encoder;
 use found::activation::Memory;
 use signals::highpass::HighPass;
 
-// The state in the caller's arrays.
+// The state in the caller's arrays, which C lends one by one.
 #[tactic(auto, unfolding(crate::specs::State::read_encoder))]
 pub fn read_encoder(
     numbers: &[u32; 4],
@@ -93,7 +93,8 @@ pub fn write_numbers(numbers: &mut [u32; 4], encoder: Encoder)
     ];
 }
 
-// The same with the state of a frame's result, where the frame is done. Gives the number of its answer.
+// The same with the state of a frame's result, where the frame is done. Gives the number of its answer. The decoder's of this
+// name differs in what is written, which is all but two lines of it.
 pub fn write_numbers_if_done(numbers: &mut [u32; 4], res: Framed) -> u32
     ensures { (result ≡ number_of res.answer) × (numbers.new ≡ where_done res.answer (numbers_by narrowed res.encoder) numbers.old) }
 {

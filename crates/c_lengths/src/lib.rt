@@ -1,4 +1,5 @@
-// What a caller has to know before its first frame: how long a frame and the coefficient arrays are.
+// What a caller has to know before its first frame: how long a frame and the coefficient arrays are. C has no option, so 0
+// stands for none. The two counts are a function each, as nabiteke hands them to C.
 #![tactic(auto)]
 
 ghost use Rattle.std.specs.Prelude.{◌≡◌};

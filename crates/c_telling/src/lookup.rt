@@ -6,7 +6,7 @@ use lag::rescale::look_up_lag;
 use rates::answer::{Answer, Refusal};
 use rates::table::row_of;
 
-// The lag of an index and how it was rounded. Zeros where the lookup is refused.
+// The lag of an index and how it was rounded, as C has it: numbers beside the answer, zeros where the lookup is refused.
 #[derive(Clone, Copy)]
 pub struct LagForC {
     pub answer: Answer,

@@ -10,14 +10,15 @@ use on_ring::registers::{Registers, fit_ring};
 use rates::answer::{Answer, Refusal};
 use telling::told::{Told, case_number, judge_fitted, told_of};
 
-// The gain's row, 0 where the filter has none.
+// The gain's row as C has it: a flag and a number, which is 0 where the filter has none.
 #[derive(Clone, Copy)]
 pub struct RowForC {
     pub on: bool,
     pub row: u32,
 }
 
-// What a frame tells. Zeros where it is refused; no lag and no row where it is not active.
+// What a frame tells, as C has it: numbers beside the answer. Zeros where it is refused; no lag and no row where it is not
+// active.
 #[derive(Clone, Copy)]
 pub struct ToldForC {
     pub answer: Answer,

@@ -48,7 +48,8 @@ fn gain_row(gain: Option<Gain>) -> usize
     gain.map_or(0, |on| on.row)
 }
 
-// The coefficients of an active frame: a row for the gain, and one for the quarter.
+// The coefficients of an active frame: a row for the gain, and one for the quarter. That there is such a row is a clause, and
+// not the gain's own: what is told of a plan (`told_of`) is promised of any gain.
 fn active_filter(l_den: usize, gain: Option<Gain>, quarter: usize, set: CoefficientSet) -> [f32; 24]
     requires { Lent l_den set.numerators.now set.denominators.now × (gain_row gain ≤ 3) × (quarter ≤ 3) }
     ensures { (lag : Lag) → lag.quarter ≡ quarter → result ≡ laid_out (filter_of l_den gain lag set.entry.numerators.now set.entry.denominators.now) }

@@ -17,7 +17,8 @@ use on_ring::planned::filter_planned;
 use on_ring::registers::move_on;
 use rates::answer::Refusal;
 
-// Takes the samples of the accepted ears up. One pass takes both; where one ear is refused, its samples go nowhere.
+// Takes the samples of the accepted ears up. One pass takes both; where one ear is refused, its samples go nowhere. What
+// belongs to an ear stands apart: its ring of inputs is written here, and its ring of outputs read when they are handed back.
 pub(crate) fn take_up(
     left: Result<Plan, Refusal>,
     left_start: usize,

@@ -17,6 +17,7 @@ use search::pitch::pitch_detection;
 use signals::highpass::HighPass;
 use signals::{at_6p4, at_12p8, at_rate};
 
+// What a call gives back. No Result, since a refused call gives absent with 0 bits, and hands the state back too.
 #[derive(Clone, Copy)]
 pub struct Framed {
     pub answer: Answer,

@@ -22,6 +22,7 @@ pub struct Encoder {
     pub x_6p4: [f32; 114],
 }
 
+// What a start gives back: a refused one has a state too.
 #[derive(Clone, Copy)]
 pub struct Started {
     pub answer: Answer,
@@ -53,7 +54,7 @@ fn cleared(rate: u32, duration: u32) -> Encoder
 }
 
 // Starts an encoder at a rate in Hz and a duration in microseconds. A refused start is at 48000 Hz
-// and 10 ms.
+// and 10 ms. The decoder starts in the same steps; what both need is `config`, and the rest is their states.
 pub fn start(rate: u32, duration: u32) -> Started
     ensures { result ≡ started rate duration }
 {

@@ -37,7 +37,8 @@ fn read_marks(index: Option<u32>, rest: &[u8]) -> Result<SideInfo, Malformed>
     side_of(index, read_number(mark, 1)?, read_number(nbits, 9)?)
 }
 
-// The three fields: all are needed, and nothing else may stand there.
+// The three fields: all are needed, and nothing else may stand there. `read_line` begins alike, but splits off another
+// field and hands the rest to another function.
 #[tactic(auto, using(crate::proofs::LongLines::no_pitch_field), unfolding(crate::specs::Sides::side_read))]
 pub fn read_side(text: &[u8]) -> Result<SideInfo, Malformed>
     ensures { result ≡ side_read text.now }

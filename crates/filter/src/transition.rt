@@ -105,7 +105,8 @@ fn pitch_changed(old: KeptFilter, new: KeptFilter, x: &[f32], y: &mut [f32], spa
 }
 
 // The outputs of a frame, by its case. Clauses and no types ask for what the lines and the filters are: y holds the
-// inputs only before the call, and a filter that the case does not use may be any.
+// inputs only before the call, and a filter that the case does not use may be any. The case is matched, since each takes other
+// filters.
 #[tactic(auto, unfolding(crate::specs::Transition::outputs))]
 pub fn filter_frame(case: Case, x: &[f32], y: &mut [f32], spans: Spans)
     requires { Lines spans.fade spans.history x.now y.old × Readable case.transition (kept_as case.old) (kept_as case.new) spans.history }

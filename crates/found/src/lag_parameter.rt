@@ -33,7 +33,8 @@ fn whole_entry(r_12p8: &[f32]) -> usize
     entry
 }
 
-// The correlations interpolated at d quarters past an entry.
+// The correlations interpolated at d quarters past an entry. Correlations are a frame's and the table is the set's, so they
+// come apart.
 fn interpolate(r_12p8: &[f32], entry: usize, d: i32, interpolation: &[f32; 31]) -> f32
     requires { (4 ≤ entry) × (entry + 4 < length r_12p8.now) × (entry ≤ 404) × (mag d ≤ 3) }
     ensures { result ≡ interpolated r_12p8.now entry d interpolation.now 9 }
@@ -84,7 +85,7 @@ fn fraction(r_12p8: &[f32], entry: usize, pitch_int: usize, interpolation: &[f32
     pitch_fr
 }
 
-// A lag with its index.
+// A lag with its index. That it is at most 228 is a clause: it comes in as a plain number, and is no lag yet.
 fn coded(pitch_int: usize, pitch_fr: u8) -> LagParameter
     requires { pitch_int ≤ 228 }
     ensures { result ≡ coded pitch_int pitch_fr }

@@ -4,7 +4,8 @@ ghost use Rattle.std.specs.Int.Signed.{mag, non_neg};
 ghost use Rattle.found.specs.Taps.{offset, inside, moved, plus};
 ghost use Rattle.floats.specs.Single.{◌⊗◌, at};
 
-// The offset of tap m for a fraction of d quarters.
+// The offset of tap m for a fraction of d quarters. The bounds of both are clauses, here and where it is called: they are a
+// loop's, and a value that kept them would be made anew at each turn.
 pub(crate) fn table_offset(m: i32, d: i32) -> i32
     requires { (mag m ≤ 4) × (mag d ≤ 3) }
     ensures { result ≡ offset m d }

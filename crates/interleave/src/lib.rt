@@ -9,7 +9,8 @@ ghost use Rattle.interleave.specs.Turns.{every_second, lefts, rights, in_turn};
 use floats::{all_in_range, in_range};
 
 // Copies the samples of both ears into two arrays, each from its place on. One pass takes both, which costs no more
-// than to copy each by itself. By index, since it writes two slices at once, each from a place of its own.
+// than to copy each by itself. What is asked of the buffer is a clause, as the buffer is a caller's slice. By index,
+// since it writes two slices at once, each from a place of its own.
 pub fn deinterleave(
     samples: &[f32],
     nf: usize,
@@ -45,7 +46,7 @@ pub fn interleave(
     }
 }
 
-// Whether every second sample is in range, from the one at `from` on.
+// Whether every second sample is in range, from the one at `from` on: by index, with a step of 2.
 fn every_second_in_range(samples: &[f32], from: usize) -> bool
     requires { from ≤ 1 }
     ensures { result ≡ all_in_range (every_second (drop from samples.now)) }

@@ -18,7 +18,7 @@ pub struct SideInfo {
     pub nbits: u32,
 }
 
-// What an accepted frame is to do.
+// What an accepted frame is to do. An inactive one has a lag, of 0, and the gain of its bits too.
 #[derive(Clone, Copy)]
 pub struct Plan {
     pub config: Lc3Config,

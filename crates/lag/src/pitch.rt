@@ -8,6 +8,7 @@ pub struct Present {
     pub active: bool,
 }
 
+// No option: a customer asked for a third case, which is to come.
 #[derive(Clone, Copy)]
 pub enum PitchRecord {
     Absent,

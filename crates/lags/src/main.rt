@@ -10,7 +10,8 @@ use listing_stream::{begin, end, pump};
 use outcome::Outcome;
 use std::process::ExitCode;
 
-// What an event makes of the listing of the input that is open. It gives none where standard output takes no more.
+// What an event makes of the listing of the input that is open. It gives none where standard output takes no more. A match, since
+// each event asks for another thing with other arguments.
 fn after(
     rt: &HostRuntime,
     outcome: &mut Outcome,
@@ -19,12 +20,12 @@ fn after(
     piece: &[u8],
 ) -> Option<Listing> {
     match event {
-        Event::Begun => begin(rt, outcome),
+        Event::Begun => begin(rt, outcome).ok(),
         Event::Piece(_) => {
             let mut out = [0u8; 65536];
-            pump(rt, outcome, listing, piece, &mut out)
+            pump(rt, outcome, listing, piece, &mut out).ok()
         }
-        Event::Ended => end(rt, outcome, listing),
+        Event::Ended => end(rt, outcome, listing).ok(),
         Event::Failed | Event::Over => Some(listing),
     }
 }

@@ -83,7 +83,8 @@ impl Sense for Taken {
     }
 }
 
-// Each sum with c times its sample added or subtracted; the first sum's sample is the one at i.
+// Each sum with c times its sample added or subtracted; the first sum's sample is the one at i. That eight samples stand
+// there is a clause: a value for it would be made anew, with the same proof, at each turn of a loop.
 fn scaled<S: Sense>(s: Lanes, c: f32, x: &[f32], i: usize) -> Lanes
     requires { i + 8 ≤ length x.now }
     ensures { result ≡ combined S.of s c x.now i }

@@ -34,7 +34,8 @@ pub fn ring_fits(registers: Registers, config: Lc3Config) -> bool
     fits(registers.marks, config) && block_fits(config, registers.block_start_index)
 }
 
-// The configuration of fit registers. Unfit ones are refused.
+// The configuration of fit registers. Unfit ones are refused. As `fit_config` of control, but for the test: a function of the
+// test would be as long as the lines that it spares.
 pub fn fit_ring(registers: Registers) -> Result<Lc3Config, Refusal>
     ensures { result ≡ fit_ring registers }
 {

@@ -176,7 +176,7 @@ pub fn write_out(rt: &HostRuntime, outcome: &mut Outcome, text: &[u8]) -> bool
     is_written(rt, outcome, rt.write_all(text))
 }
 
-// The same with text that is still to be formatted.
+// The same with text that is still to be formatted, for which std has a function of its own.
 pub fn print<D: Display + Drop>(rt: &HostRuntime, outcome: &mut Outcome, text: D) -> bool
     ensures written { result ≡ true → outcome.new ≡ outcome.old }
     ensures taken { result ≡ is_taken outcome.new.output }

@@ -5,7 +5,8 @@ ghost use Rattle.packing.specs.Readings.{reading, refused_reading};
 use lag::pitch::{PitchRecord, Present};
 use rates::answer::{Answer, Refusal};
 
-// How a reading went, the record, and how many bytes it used.
+// How a reading went, the record, and how many bytes it used. No Result, since docs/SCOPE.md has a refused reading give absent,
+// with 0 bytes used.
 #[derive(Clone, Copy)]
 pub struct Reading {
     pub answer: Answer,

@@ -6,7 +6,7 @@ ghost use Rattle.packing.specs.Writings.{sent_writing, writing, refused_writing}
 use lag::pitch::{PitchRecord, Present, sent_of};
 use rates::answer::{Answer, Refusal};
 
-// How a writing went, and how many bytes it wrote.
+// How a writing went, and how many bytes it wrote: no Result, as of a reading, since a refused one tells that it wrote 0.
 #[derive(Clone, Copy)]
 pub struct Writing {
     pub answer: Answer,

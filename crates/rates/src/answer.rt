@@ -23,7 +23,7 @@ pub enum Refusal {
 pub type Answer = Result<(), Refusal>;
 
 impl Refusal {
-    // The number under which a refusal is listed.
+    // The number under which a refusal is listed: the customer's, in docs/SCOPE.md. Only rows and calls for C tell it.
     fn number(self) -> u64
         ensures { result ≡ refusal_number self }
     {

@@ -31,7 +31,7 @@ fn replay_piece(
     let pumped = pump(rt, outcome, from.listing, piece, &mut out);
     let progress = out_of_the_way.show(rt, piece.len());
     Some(Replayed {
-        listing: pumped?,
+        listing: pumped.ok()?,
         progress,
     })
 }
@@ -49,13 +49,13 @@ fn after(
     match event {
         Event::Begun => {
             let progress = Progress::begin(rt, source);
-            let listing = begin(rt, outcome)?;
+            let listing = begin(rt, outcome).ok()?;
             Some(Replayed { listing, progress })
         }
         Event::Piece(_) => replay_piece(rt, outcome, from, piece),
         Event::Ended => {
             let progress = from.progress.clear(rt);
-            let listing = end(rt, outcome, from.listing)?;
+            let listing = end(rt, outcome, from.listing).ok()?;
             Some(Replayed { listing, progress })
         }
         Event::Failed | Event::Over => Some(Replayed {

@@ -6,7 +6,7 @@ use std::rt::Clock;
 use std::{fs, io};
 
 // The bytes of the input, where they are to be shown; those that were read; when the line was last
-// written, in seconds, or the run began; and whether it stands there.
+// written, in seconds, or the run began; and whether it stands there, which says nothing of the others.
 #[derive(Clone, Copy)]
 pub(crate) struct Progress {
     size: Option<u64>,

@@ -32,7 +32,8 @@ fn correlate_inside(x: &[f32], start: usize, len: usize, from: usize, r: &mut [f
 }
 
 // The correlations of the len samples from start on with what lies `from` samples before them, and more
-// by one at each entry of r. Where a lag leads out of x, or r has not 8 to 17 entries, nothing is written.
+// by one at each entry of r. Where a lag leads out of x, or r has not 8 to 17 entries, nothing is written. x is read and r
+// written: the two are no one thing.
 pub fn correlate(x: &[f32], start: usize, len: usize, from: usize, r: &mut [f32])
     ensures { r.new ≡ correlated_into r.old x.now start len from }
 {

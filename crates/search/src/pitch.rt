@@ -16,7 +16,7 @@ const K_MIN: usize = 17;
 const K_MAX: usize = 114;
 
 // The chosen lag and whether there is a pitch, with the lag's plain correlation and the root of the
-// product of the two energies.
+// product of the two energies. The lag is chosen either way, and remembered, so it is no option.
 #[derive(Clone, Copy)]
 pub struct Detected {
     pub t_curr: usize,

@@ -12,7 +12,8 @@ use lag::rescale::Lag;
 use rates::answer::Refusal;
 use rates::config::Lc3Config;
 
-// What an accepted frame is going to do: its case, whether it is active, its lag, its gain, and how the lag was rounded.
+// What an accepted frame is going to do: its case, whether it is active, its lag, its gain, and how the lag was rounded. An
+// inactive one has a lag and the gain of its bits too.
 #[derive(Clone, Copy)]
 pub struct Told {
     pub transition: Transition,

@@ -7,7 +7,8 @@ use std::fmt::Display;
 use vectors::part::Numbers;
 use vectors::report::Report;
 
-// Where vectors stand: nowhere yet, in a frame of the encoder, or in a case of the decoder.
+// Where vectors stand: nowhere yet, in a frame of the encoder, or in a case of the decoder. Nowhere is printed as a place too,
+// so this is no option.
 #[derive(Clone, Copy)]
 pub enum Place {
     Nowhere,
@@ -103,7 +104,7 @@ impl Tally {
     }
 
     // Prints the counts, on a line, and answers how the program has fared then. A value out of tolerance is
-    // a failure, and so is a line that cannot be written.
+    // a failure, and so is a line that cannot be written. test_vectors prints other counts.
     pub(crate) fn print_counts(&mut self) -> Outcome {
         let vectors = self.vectors;
         let values = self.values;

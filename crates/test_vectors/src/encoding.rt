@@ -65,6 +65,7 @@ fn call_frame(encoder: &mut Encoder, run: &mut Run<'_>) -> Result<(), Stop> {
     Ok(())
 }
 
+// The decoder's is alike: what would make one of both is a trait of their results, which is longer.
 impl Start for Encoder {
     fn start(rate: u32, duration: u32) -> (Self, Answer) {
         let started = start(rate, duration);

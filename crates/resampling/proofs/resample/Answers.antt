@@ -1,20 +1,33 @@
--- `resample` writes where the set and the step are usable.
+-- `resample` writes where the set has its length and the step is one of the table.
 use Rattle.std.proofs.Common.{sym, ◌∙◌}
 use Rattle.resampling.specs.Resample.{resampled_into}
-use Rattle.resampling.proofs.Steps.{usable_facts}
+use Rattle.resampling.proofs.Steps.{unusable, usable_by}
 use Rattle.resampling.proofs.resample.Goals as goal
 
-pub returns-then-not-is_usable-clause-signal : goal.returns-then-not-is_usable-clause-signal
+pub returns-in_default-clause-done : goal.returns-in_default-clause-done
+returns-in_default-clause-done c = sym (unusable _ _ c.in_default.ensures.1)
+
+pub returns-in_default-clause-signal : goal.returns-in_default-clause-signal
 unfolding resampled_into
-returns-then-not-is_usable-clause-signal c = rw (sym c.is_usable.ensures ∙ c.if-not-is_usable.true)
+returns-in_default-clause-signal c = rw (unusable c.args.filter.now c.args.p c.in_default.ensures.1)
 
-pub write_outputs-requires-clause-le_p : goal.write_outputs-requires-clause-le_p
-write_outputs-requires-clause-le_p c =
-    let u = usable_facts _ _ (sym c.is_usable.ensures ∙ c.if-not-is_usable.false) in (u.least, u.most, u.divides)
+pub returns-then-not-is_step-clause-done : goal.returns-then-not-is_step-clause-done
+returns-then-not-is_step-clause-done c = sym (usable_by _ _ _ c.in-Ok.ensures.1.long c.is_step.ensures ∙ c.if-not-is_step.true)
 
-pub write_outputs-requires-clause-filter_len : goal.write_outputs-requires-clause-filter_len
-write_outputs-requires-clause-filter_len c = (usable_facts _ _ (sym c.is_usable.ensures ∙ c.if-not-is_usable.false)).long
+pub returns-then-not-is_step-clause-signal : goal.returns-then-not-is_step-clause-signal
+unfolding resampled_into
+returns-then-not-is_step-clause-signal c = rw (usable_by c.args.filter.now c.args.p _ c.in-Ok.ensures.1.long c.is_step.ensures, c.if-not-is_step.true)
+
+pub returns-clause-done : goal.returns-clause-done
+returns-clause-done c = sym (usable_by _ _ _ c.in-Ok.ensures.1.long c.is_step.ensures ∙ c.if-not-is_step.false)
 
 pub returns-clause-signal : goal.returns-clause-signal
 unfolding resampled_into
-returns-clause-signal c = rw (sym c.is_usable.ensures ∙ c.if-not-is_usable.false, c.write_outputs.ensures, c.lengths_of-l.ensures)
+returns-clause-signal c =
+    rw (
+      usable_by c.args.filter.now c.args.p _ c.in-Ok.ensures.1.long c.is_step.ensures,
+      c.if-not-is_step.false,
+      c.write_outputs.ensures,
+      c.lengths_of-l.ensures,
+      c.in-Ok.ensures.1.same,
+    )

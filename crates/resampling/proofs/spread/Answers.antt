@@ -10,11 +10,11 @@ loop-s-init c = (c.told-rows, λ t b h. absurd (omega arith))
 
 pub loop-s-preserved : goal.loop-s-preserved
 loop-s-preserved c =
-    let bounds : (240 / c.args.p ≤ 60) × (105 / c.args.p < 27) =
-    (div-le_of_le-mul c.args.p (omega arith), (div-lt_iff_lt-mul {k = c.args.p} (omega arith)).1 (omega arith)) in
+    let bounds : (240 / c.args.step.p ≤ 60) × (105 / c.args.step.p < 27) =
+    (div-le_of_le-mul c.args.step.p (omega arith), (div-lt_iff_lt-mul {k = c.args.step.p} (omega arith)).1 (omega arith)) in
     let l = c.loop-s in (
       c.put_row.array_long,
-      row_more (λ t b. at c.args.x.now (60 - 240 / c.args.p + t + 120 / c.args.p * b)) l.rows _ l.s (omega (arith, bounds)) l.invariant.1 c.put_row.ensures,
+      row_more (λ t b. at c.args.x.now (60 - 240 / c.args.step.p + t + 120 / c.args.step.p * b)) l.rows _ l.s (omega (arith, bounds)) l.invariant.1 c.put_row.ensures,
     )
 
 pub returns : goal.returns

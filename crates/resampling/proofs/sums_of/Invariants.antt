@@ -3,4 +3,4 @@ use Rattle.resampling.specs.Rows.{Phases}
 use Rattle.resampling.proofs.sums_of.Given as goal
 
 abbrev pub invariant-loop-n : goal.invariant-loop-n
-invariant-loop-n l = Phases l.rows l.filter l.p l.n l.sums
+invariant-loop-n l = Phases l.rows l.filter l.step.p l.n l.sums

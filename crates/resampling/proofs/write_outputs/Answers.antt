@@ -17,6 +17,6 @@ loop-n-preserved c =
       add-one,
       written,
       ← c.loop-n.invariant,
-      phase_at a.x.now a.filter.now _ a.p c.requires.le_p.0 c.requires.le_p.2 c.spread.ensures c.sums_of-sums.result c.sums_of-sums.ensures c.loop-n.n (omega arith),
+      phase_at a.x.now a.filter.now _ a.step.p a.step.least a.step.divides c.spread.ensures c.sums_of-sums.result c.sums_of-sums.ensures c.loop-n.n (omega arith),
       c.scale_of-scale.ensures,
     )
