@@ -34,11 +34,12 @@ pub fn advance(marks: Marks, active: bool, lag: Lag) -> Marks
     let run = run_after(active, marks.run);
     let settled = settled_after(marks.settled, run);
     Marks {
+        rate: marks.rate,
+        duration: marks.duration,
         run,
         ltpf_active_prev: active,
         settled,
         lag,
-        ..marks
     }
 }
 

@@ -24,20 +24,30 @@ counted r k s = eqb (length r) 239 && eqb (length k) 31 && eqb (length s) 15
 unfoldable pub finite_set : List Float → List Float → List Float → Bool
 finite_set r k s = all_finite r && all_finite k && all_finite s
 
--- checks 3 and 4, of the set lent to a fit state
-abbrev pub judged_set : Result Lc3Config Refusal → List Float → List Float → List Float → Result Lc3Config Refusal
-judged_set (Err a) r k s = Err UnfitState
-judged_set (Ok c) r k s = cond (counted r k s) (cond (finite_set r k s) (Ok c) (Err CoefficientNotFinite)) (Err CoefficientCount)
+-- checks 3 and 4, of the set lent to a fit state, by what their refusals become
+abbrev pub set_judged : {R : Type 0} → (Refusal → R) → Result Lc3Config R → List Float → List Float → List Float → Result Lc3Config R
+set_judged of (Err a) r k s = Err (of UnfitState)
+set_judged of (Ok c) r k s = cond (counted r k s) (cond (finite_set r k s) (Ok c) (Err (of CoefficientNotFinite))) (Err (of CoefficientCount))
 
 -- check 5, where nothing was refused before
-abbrev pub judged_count : Result Lc3Config Refusal → ℕ → Result Lc3Config Refusal
-judged_count (Err a) n = Err a
-judged_count (Ok c) n = cond (eqb n c.nf) (Ok c) (Err SampleCount)
+abbrev pub count_judged : {R : Type 0} → (Refusal → R) → Result Lc3Config R → ℕ → Result Lc3Config R
+count_judged of (Err a) n = Err a
+count_judged of (Ok c) n = cond (eqb n c.nf) (Ok c) (Err (of SampleCount))
 
 -- check 6, where nothing was refused before
+abbrev pub bits_judged : {R : Type 0} → (Refusal → R) → Result Lc3Config R → ℕ → Result Lc3Config R
+bits_judged of (Err a) nbits = Err a
+bits_judged of (Ok c) nbits = cond (leb nbits 3200) (Ok c) (Err (of TooManyBits))
+
+-- the same where a refusal stays what it is
+abbrev pub judged_set : Result Lc3Config Refusal → List Float → List Float → List Float → Result Lc3Config Refusal
+judged_set fit r k s = set_judged (λ a. a) fit r k s
+
+abbrev pub judged_count : Result Lc3Config Refusal → ℕ → Result Lc3Config Refusal
+judged_count judged n = count_judged (λ a. a) judged n
+
 abbrev pub judged_bits : Result Lc3Config Refusal → ℕ → Result Lc3Config Refusal
-judged_bits (Err a) nbits = Err a
-judged_bits (Ok c) nbits = cond (leb nbits 3200) (Ok c) (Err TooManyBits)
+judged_bits judged nbits = bits_judged (λ a. a) judged nbits
 
 -- the checks that need no samples: the first refusal among 9, 3, 4 and 6
 abbrev pub judged_apart : Result Lc3Config Refusal → List Float → List Float → List Float → ℕ → Result Lc3Config Refusal

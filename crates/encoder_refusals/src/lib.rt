@@ -3,10 +3,10 @@
 #![tactic(auto)]
 
 ghost use Rattle.std.specs.Prelude.{◌≡◌};
-ghost use Rattle.encoder_refusals.specs.Refusals.{fit_of, counted, finite_set, judged_set, judged_count, judged_bits};
+ghost use Rattle.encoder_refusals.specs.Refusals.{fit_of, counted, finite_set, set_judged, count_judged, bits_judged};
 
 use floats::all_finite;
-use rates::answer::Refusal;
+use rates::answer::{Reason, Refusal};
 use rates::config::{Lc3Config, config};
 
 // The three slices of a set, which travel together.
@@ -48,37 +48,39 @@ impl EncoderSet<'_> {
 }
 
 // Checks 3 and 4, of the set lent to a fit state.
-pub fn judge_set(fit: Result<Lc3Config, Refusal>, set: EncoderSet<'_>) -> Result<Lc3Config, Refusal>
-    ensures { result ≡ judged_set fit set.entry.resampling.now set.entry.correlation.now set.entry.signal.now }
+pub fn judge_set<R: Reason>(fit: Result<Lc3Config, R>, set: EncoderSet<'_>) -> Result<Lc3Config, R>
+    ensures { result ≡ set_judged R.of fit set.entry.resampling.now set.entry.correlation.now set.entry.signal.now }
 {
-    let c = fit.map_err(|_| Refusal::UnfitState)?;
+    let Ok(c) = fit else {
+        return Err(R::refused(Refusal::UnfitState));
+    };
     if !set.is_counted() {
-        return Err(Refusal::CoefficientCount);
+        return Err(R::refused(Refusal::CoefficientCount));
     }
     if !set.is_finite() {
-        return Err(Refusal::CoefficientNotFinite);
+        return Err(R::refused(Refusal::CoefficientNotFinite));
     }
     Ok(c)
 }
 
 // Check 5, where nothing was refused before: the count of samples.
-pub fn judge_count(judged: Result<Lc3Config, Refusal>, count: usize) -> Result<Lc3Config, Refusal>
-    ensures { result ≡ judged_count judged count }
+pub fn judge_count<R: Reason>(judged: Result<Lc3Config, R>, count: usize) -> Result<Lc3Config, R>
+    ensures { result ≡ count_judged R.of judged count }
 {
     let c = judged?;
     if count != c.nf {
-        return Err(Refusal::SampleCount);
+        return Err(R::refused(Refusal::SampleCount));
     }
     Ok(c)
 }
 
 // Check 6, where nothing was refused before: the frame's bits.
-pub fn judge_bits(judged: Result<Lc3Config, Refusal>, nbits: u32) -> Result<Lc3Config, Refusal>
-    ensures { result ≡ judged_bits judged nbits }
+pub fn judge_bits<R: Reason>(judged: Result<Lc3Config, R>, nbits: u32) -> Result<Lc3Config, R>
+    ensures { result ≡ bits_judged R.of judged nbits }
 {
     let c = judged?;
     if nbits > 3200 {
-        return Err(Refusal::TooManyBits);
+        return Err(R::refused(Refusal::TooManyBits));
     }
     Ok(c)
 }

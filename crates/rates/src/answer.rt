@@ -1,5 +1,6 @@
 // The answers of every call: done, or one refusal for each number.
-ghost use Rattle.std.specs.Prelude.{◌≡◌};
+ghost use Rattle.std.specs.Prelude.{◌≡◌, Err};
+ghost use Rattle.rates.specs.declared.answer.Refusal.{Refusal};
 ghost use Rattle.rates.specs.Answers.{number_of, refusal_number};
 
 #[derive(Clone, Copy)]
@@ -21,6 +22,30 @@ pub enum Refusal {
 }
 
 pub type Answer = Result<(), Refusal>;
+
+// What may stand where there is no value: a refusal, or any answer. A test that hands it on makes its own refusals into it.
+pub trait Reason: Copy {
+    ghost of: { Refusal → Self };
+
+    fn refused(refusal: Refusal) -> Self
+        ensures { result ≡ of refusal };
+}
+
+impl Reason for Refusal {
+    ghost of = { λ r. r };
+
+    fn refused(refusal: Refusal) -> Refusal {
+        refusal
+    }
+}
+
+impl Reason for Answer {
+    ghost of = { λ r. Err r };
+
+    fn refused(refusal: Refusal) -> Answer {
+        Err(refusal)
+    }
+}
 
 impl Refusal {
     // The number under which a refusal is listed: the customer's, in docs/SCOPE.md. Only rows and calls for C tell it.

@@ -25,6 +25,15 @@ abbrev pub judged_fitted : Marks → SideInfo → Result Lc3Config Refusal → R
 judged_fitted m side (Err answer) = Err answer
 judged_fitted m side (Ok c) = judged_side m c side
 
+-- the same by what a refusal becomes, and with what fitness came to handed on
+abbrev pub refused_as : {R : Type 0} → (Refusal → R) → Result Plan Refusal → Result Plan R
+refused_as of (Err refusal) = Err (of refusal)
+refused_as of (Ok plan) = Ok plan
+
+abbrev pub fitted_judged : {R : Type 0} → (Refusal → R) → Marks → SideInfo → Result Lc3Config R → Result Plan R
+fitted_judged of m side (Err reason) = Err reason
+fitted_judged of m side (Ok c) = refused_as of (judged_side m c side)
+
 -- what a plan tells, and how the lag of its frame's pitch was rounded
 abbrev pub told_of : Plan → PitchRecord → Told
 told_of plan pitch = record {

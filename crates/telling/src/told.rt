@@ -1,6 +1,6 @@
 // What the plan of a frame tells of it, and the verdict that gives the plan.
 ghost use Rattle.std.specs.Prelude.{◌≡◌};
-ghost use Rattle.telling.specs.Told.{case_number, judged_fitted, told_of};
+ghost use Rattle.telling.specs.Told.{case_number, fitted_judged, told_of};
 
 use crate::rounding::rounding_for;
 use control::marks::Marks;
@@ -9,7 +9,7 @@ use judging::plan::{Plan, SideInfo, judge_side};
 use lag::gain::Gain;
 use lag::pitch::PitchRecord;
 use lag::rescale::Lag;
-use rates::answer::Refusal;
+use rates::answer::Reason;
 use rates::config::Lc3Config;
 
 // What an accepted frame is going to do: its case, whether it is active, its lag, its gain, and how the lag was rounded. An
@@ -37,14 +37,17 @@ pub fn case_number(transition: Transition) -> u32
 }
 
 // The verdict of a decoder on a frame whose set and samples are good, by what its fitness came to.
-pub fn judge_fitted(
+pub fn judge_fitted<R: Reason>(
     marks: Marks,
-    fitted: Result<Lc3Config, Refusal>,
+    fitted: Result<Lc3Config, R>,
     side: SideInfo,
-) -> Result<Plan, Refusal>
-    ensures { result ≡ judged_fitted marks side fitted }
+) -> Result<Plan, R>
+    ensures { result ≡ fitted_judged R.of marks side fitted }
 {
-    judge_side(marks, fitted?, side)
+    match judge_side(marks, fitted?, side) {
+        Ok(plan) => Ok(plan),
+        Err(refusal) => Err(R::refused(refusal)),
+    }
 }
 
 // What a plan tells of its frame, whose pitch is this one.
