@@ -58,8 +58,8 @@
  *
  *   No call takes more than NABITEKE_STACK bytes of stack, arguments included: measured at every rate and duration
  *   and in all five transitions, for both ears in every pair of them and with one ear refused
- *   (examples/tests/stack.c). With a caller compiled without optimisation the most was 16336 bytes in a static
- *   program, and 19304 in a dynamic one whose call is the first to use memcpy and has to look it up (lazy binding);
+ *   (examples/tests/stack.c). With a caller compiled without optimisation the most was 16136 bytes in a static
+ *   program, and 19336 in a dynamic one whose call is the first to use memcpy and has to look it up (lazy binding);
  *   the lookup's share depends on the processor and the C library, so there is room to spare.
  */
 #ifndef NABITEKE_H
