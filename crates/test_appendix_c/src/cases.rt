@@ -8,6 +8,7 @@ use decoder::frame::frame;
 use judging::plan::SideInfo;
 use lag::pitch::{PitchRecord, Present};
 use published::{DENOMINATOR_16000, NUMERATOR_16000};
+use std::convert::identity;
 use vectors::part::Numbers;
 use vectors::read::{read_number, read_numbers};
 
@@ -30,24 +31,24 @@ struct Case {
 }
 
 // Reads what goes into a frame beside its samples.
-fn read_side(reader: &mut Reader<'_>) -> Option<SideInfo> {
-    let nbits = read_number(reader, 4)?;
-    let active = read_number(reader, 1)? != 0;
-    let index = read_number(reader, 4)?;
+fn read_side(reader: &mut Reader<'_>) -> SideInfo {
+    let nbits = read_number(reader, 4).unwrap_or_else(identity);
+    let active = read_number(reader, 1).unwrap_or_else(identity) != 0;
+    let index = read_number(reader, 4).unwrap_or_else(identity);
     let pitch = PitchRecord::Present(Present { index, active });
-    Some(SideInfo { pitch, nbits })
+    SideInfo { pitch, nbits }
 }
 
 impl Case {
     fn read(reader: &mut Reader<'_>) -> Option<Case> {
         Some(Case {
-            number: read_number(reader, 1)?,
-            past: Past::read(reader)?,
-            side: read_side(reader)?,
-            x: read_numbers(reader, 160)?,
-            c_n: read_numbers(reader, 3)?,
-            c_d: read_numbers(reader, 4)?,
-            trans: read_numbers(reader, 160)?,
+            number: read_number(reader, 1).unwrap_or_else(identity),
+            past: Past::read(reader),
+            side: read_side(reader),
+            x: read_numbers(reader, 160).unwrap_or_else(identity),
+            c_n: read_numbers(reader, 3).unwrap_or_else(identity),
+            c_d: read_numbers(reader, 4).unwrap_or_else(identity),
+            trans: read_numbers(reader, 160).ok()?,
         })
     }
 

@@ -5,6 +5,7 @@ use arguments::inputs::Reader;
 use encoder::frame::Framed;
 use encoder::state::{Encoder, start};
 use published::{CORRELATION_INTERPOLATION, RESAMPLING, SIGNAL_INTERPOLATION};
+use std::convert::identity;
 use vectors::part::Numbers;
 use vectors::pitch::numbers_of;
 use vectors::read::{read_number, read_numbers};
@@ -41,13 +42,13 @@ struct Expected {
 
 impl Given {
     fn read(reader: &mut Reader<'_>) -> Option<Given> {
-        let near_nyquist = read_number(reader, 1)? != 0;
-        let nbits = read_number(reader, 4)?;
-        let count = read_number(reader, 2)?;
+        let near_nyquist = read_number(reader, 1).unwrap_or_else(identity) != 0;
+        let nbits = read_number(reader, 4).unwrap_or_else(identity);
+        let count = read_number(reader, 2).unwrap_or_else(identity);
         Some(Given {
             near_nyquist,
             nbits,
-            samples: read_numbers(reader, count as usize)?,
+            samples: read_numbers(reader, count as usize).ok()?,
         })
     }
 }
@@ -65,18 +66,20 @@ fn delayed(kept: &[f32; 276], duration: u32) -> &[f32] {
 impl Expected {
     fn read(reader: &mut Reader<'_>) -> Option<Expected> {
         let pitch = [
-            read_number(reader, 1)?,
-            read_number(reader, 4)?,
-            read_number(reader, 1)?,
+            read_number(reader, 1).unwrap_or_else(identity),
+            read_number(reader, 4).unwrap_or_else(identity),
+            read_number(reader, 1).unwrap_or_else(identity),
         ];
-        let t_curr = read_number(reader, 4)?;
-        let nc_ltpf = read_numbers(reader, 1)?;
-        let count = read_number(reader, 2)?;
+        let t_curr = read_number(reader, 4).unwrap_or_else(identity);
+        let nc_ltpf = read_numbers(reader, 1).unwrap_or_else(identity);
+        let count = read_number(reader, 2);
+        let signal = read_numbers(reader, count.unwrap_or_else(identity) as usize);
+        count.ok()?;
         Some(Expected {
             pitch,
             t_curr,
             nc_ltpf,
-            signal: read_numbers(reader, count as usize)?,
+            signal: signal.ok()?,
         })
     }
 
@@ -98,7 +101,8 @@ impl Expected {
 
 // Reads a rate and a duration.
 fn read_start(reader: &mut Reader<'_>) -> Option<(u32, u32)> {
-    Some((read_number(reader, 4)?, read_number(reader, 4)?))
+    let rate = read_number(reader, 4).unwrap_or_else(identity);
+    Some((rate, read_number(reader, 4).ok()?))
 }
 
 impl Encoding {
@@ -136,8 +140,10 @@ impl Encoding {
 
     // A frame: it goes through the encoder, and what is published of it is compared at its place.
     pub(crate) fn frame(&mut self, reader: &mut Reader<'_>, tally: &mut Tally) -> Result<(), Stop> {
-        let given = Given::read(reader).ok_or(Stop::FrameCutOff)?;
-        let expected = Expected::read(reader).ok_or(Stop::FrameCutOff)?;
+        let given = Given::read(reader);
+        let expected = Expected::read(reader);
+        let given = given.ok_or(Stop::FrameCutOff)?;
+        let expected = expected.ok_or(Stop::FrameCutOff)?;
         let framed = self.encode(&given);
         framed.answer.map_err(|_| Stop::FrameRefused)?;
         tally.place = Place::Frame {

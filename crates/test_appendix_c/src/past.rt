@@ -7,6 +7,7 @@ use lag::index::unscaled_lag;
 use lag::rescale::{Lag, rescale};
 use on_ring::registers::Registers;
 use slices::put;
+use std::convert::identity;
 use vectors::part::Numbers;
 use vectors::read::{read_number, read_numbers};
 
@@ -30,15 +31,15 @@ pub struct Past {
 }
 
 impl Past {
-    pub(crate) fn read(reader: &mut Reader<'_>) -> Option<Past> {
-        Some(Past {
-            active: read_number(reader, 1)? != 0,
-            index: read_number(reader, 4)?,
-            c_n: read_numbers(reader, 3)?,
-            c_d: read_numbers(reader, 4)?,
-            x: read_numbers(reader, 160)?,
-            prev: read_numbers(reader, 320)?,
-        })
+    pub(crate) fn read(reader: &mut Reader<'_>) -> Past {
+        Past {
+            active: read_number(reader, 1).unwrap_or_else(identity) != 0,
+            index: read_number(reader, 4).unwrap_or_else(identity),
+            c_n: read_numbers(reader, 3).unwrap_or_else(identity),
+            c_d: read_numbers(reader, 4).unwrap_or_else(identity),
+            x: read_numbers(reader, 160).unwrap_or_else(identity),
+            prev: read_numbers(reader, 320).unwrap_or_else(identity),
+        }
     }
 
     // The lag that the frame before left: none if it was inactive.

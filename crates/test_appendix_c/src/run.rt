@@ -27,7 +27,7 @@ const NEWLINE: u32 = 10;
 // Reads a comment to its newline.
 fn skip_comment(reader: &mut Reader<'_>) -> Result<(), Stop> {
     for _ in 0..LONGEST {
-        if read_number(reader, 1).ok_or(Stop::CommentCutOff)? == NEWLINE {
+        if read_number(reader, 1).map_err(|_| Stop::CommentCutOff)? == NEWLINE {
             return Ok(());
         }
     }
@@ -36,7 +36,7 @@ fn skip_comment(reader: &mut Reader<'_>) -> Result<(), Stop> {
 
 // Takes one record of the file.
 fn step(reader: &mut Reader<'_>, encoding: &mut Encoding, tally: &mut Tally) -> Result<(), Stop> {
-    let kind = read_number(reader, 1).ok_or(Stop::End)?;
+    let kind = read_number(reader, 1).map_err(|_| Stop::End)?;
     // The letter picks what reads the record: no table of functions would be plainer.
     match kind {
         COMMENT => skip_comment(reader),

@@ -9,6 +9,7 @@ use decoder::state::Decoder;
 use ears::frame::{BothFramed, frame_both};
 use ears_judging::ear::Ear;
 use lag::pitch::PitchRecord;
+use std::convert::identity;
 use vectors::part::Numbers;
 use vectors::read::{read_number, read_numbers};
 
@@ -37,23 +38,26 @@ struct Frame {
 
 impl Frame {
     fn read(reader: &mut Reader<'_>) -> Option<Frame> {
-        let pitches = [read_pitch(reader)?, read_pitch(reader)?];
-        let given = Given::read(reader)?;
+        let pitches = [read_pitch(reader), read_pitch(reader)];
+        let given = Given::read(reader);
+        let left = Reports::read(reader).unwrap_or_else(identity);
+        let right = Reports::read(reader);
+        let expected = read_numbers(reader, given.count);
         Some(Frame {
             pitches,
             given,
-            reports: [Reports::read(reader)?, Reports::read(reader)?],
-            expected: read_numbers(reader, given.samples.count)?,
+            reports: [left, right.ok()?],
+            expected: expected.ok()?,
         })
     }
 }
 
 impl Ears {
     // Reads which ear is meant, 0 for left, any other number for right: its state.
-    fn read_ear(&mut self, reader: &mut Reader<'_>) -> Option<&mut Decoder> {
-        match read_number(reader, 1)? {
-            0 => Some(&mut self.left),
-            _ => Some(&mut self.right),
+    fn read_ear(&mut self, reader: &mut Reader<'_>) -> &mut Decoder {
+        match read_number(reader, 1).unwrap_or_else(identity) {
+            0 => &mut self.left,
+            _ => &mut self.right,
         }
     }
 
@@ -112,16 +116,16 @@ impl Ears {
 
     // A made-up run of an ear.
     fn put_run(&mut self, reader: &mut Reader<'_>) -> Option<()> {
-        let ear = self.read_ear(reader)?;
-        ear.registers.marks.run = read_number(reader, 4)?;
+        let ear = self.read_ear(reader);
+        ear.registers.marks.run = read_number(reader, 4).ok()?;
         Some(())
     }
 
     // A made-up rate and duration of an ear.
     fn put_names(&mut self, reader: &mut Reader<'_>) -> Option<()> {
-        let ear = self.read_ear(reader)?;
-        let rate = read_number(reader, 4)?;
-        let duration = read_number(reader, 4)?;
+        let ear = self.read_ear(reader);
+        let rate = read_number(reader, 4).unwrap_or_else(identity);
+        let duration = read_number(reader, 4).ok()?;
         ear.registers.marks.rate = rate;
         ear.registers.marks.duration = duration;
         Some(())
@@ -142,11 +146,11 @@ impl End for Ears {
     fn take(&mut self, run: &mut Run<'_>, kind: u32) -> Result<(), Stop> {
         match kind {
             START => {
-                let ear = self.read_ear(&mut run.reader).ok_or(Stop::Call)?;
+                let ear = self.read_ear(&mut run.reader);
                 run.start(ear)
             }
             FRAME => self.call_frame(run),
-            LOSS => call_loss(self.read_ear(&mut run.reader).ok_or(Stop::Call)?, run),
+            LOSS => call_loss(self.read_ear(&mut run.reader), run),
             RUN => self.put_run(&mut run.reader).ok_or(Stop::State),
             NAMES => self.put_names(&mut run.reader).ok_or(Stop::State),
             _ => Err(Stop::Kind),

@@ -26,23 +26,25 @@ pub struct Frame {
 
 impl Frame {
     fn read(reader: &mut Reader<'_>) -> Option<Frame> {
-        let pitch = read_pitch(reader)?;
-        let given = Given::read(reader)?;
+        let pitch = read_pitch(reader);
+        let given = Given::read(reader);
+        let reports = Reports::read(reader);
+        let expected = read_numbers(reader, given.count);
         Some(Frame {
             side: SideInfo {
                 pitch,
                 nbits: given.nbits,
             },
             samples: given.samples,
-            reports: Reports::read(reader)?,
-            expected: read_numbers(reader, given.samples.count)?,
+            reports: reports.ok()?,
+            expected: expected.ok()?,
         })
     }
 }
 
 // A loss mark: an answer and the settled report come out.
 pub(crate) fn call_loss(decoder: &mut Decoder, run: &mut Run<'_>) -> Result<(), Stop> {
-    let expected = Reports::read(&mut run.reader).ok_or(Stop::Call)?;
+    let expected = Reports::read(&mut run.reader).map_err(|_| Stop::Call)?;
     let framed = lost(*decoder);
     *decoder = framed.decoder;
     run.tally.count(Kind::Loss);

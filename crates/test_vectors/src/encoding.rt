@@ -5,6 +5,7 @@ use crate::tally::Kind;
 use arguments::inputs::Reader;
 use encoder::state::{Encoder, start};
 use rates::answer::{Answer, number};
+use std::convert::identity;
 use vectors::part::Numbers;
 use vectors::pitch::numbers_of;
 use vectors::read::{read_number, read_numbers};
@@ -23,20 +24,24 @@ struct Frame {
 
 impl Frame {
     fn read(reader: &mut Reader<'_>) -> Option<Frame> {
-        let near_nyquist = read_number(reader, 1)? != 0;
-        let nbits = read_number(reader, 4)?;
-        let count = read_number(reader, 2)?;
+        let near_nyquist = read_number(reader, 1).unwrap_or_else(identity) != 0;
+        let nbits = read_number(reader, 4).unwrap_or_else(identity);
+        let count = read_number(reader, 2).unwrap_or_else(identity);
+        let samples = read_numbers(reader, count as usize);
+        let answer = read_number(reader, 1).unwrap_or_else(identity);
+        let pitch = [
+            read_number(reader, 1).unwrap_or_else(identity),
+            read_number(reader, 4).unwrap_or_else(identity),
+            read_number(reader, 1).unwrap_or_else(identity),
+        ];
+        let nbits_ltpf = read_number(reader, 1);
         Some(Frame {
             near_nyquist,
             nbits,
-            samples: read_numbers(reader, count as usize)?,
-            answer: read_number(reader, 1)?,
-            pitch: [
-                read_number(reader, 1)?,
-                read_number(reader, 4)?,
-                read_number(reader, 1)?,
-            ],
-            nbits_ltpf: read_number(reader, 1)?,
+            samples: samples.ok()?,
+            answer,
+            pitch,
+            nbits_ltpf: nbits_ltpf.ok()?,
         })
     }
 }

@@ -3,6 +3,7 @@ use crate::tally::Tally;
 use arguments::inputs::Reader;
 use lag::pitch::{PitchRecord, Present};
 use rates::answer::{Answer, number};
+use std::convert::identity;
 use vectors::part::Numbers;
 use vectors::read::{read_number, read_numbers};
 
@@ -13,19 +14,22 @@ pub struct Reports {
     settled: u32,
 }
 
-// What goes into a frame beside its pitch records.
+// What goes into a frame beside its pitch records, and how many samples it says that it has.
 #[derive(Clone, Copy)]
 pub struct Given {
     pub nbits: u32,
+    pub count: usize,
     pub samples: Numbers<f32>,
 }
 
 impl Reports {
-    pub(crate) fn read(reader: &mut Reader<'_>) -> Option<Reports> {
-        Some(Reports {
-            answer: read_number(reader, 1)?,
-            settled: read_number(reader, 1)?,
-        })
+    // Both, or what came of them; they are whole where the last is.
+    pub(crate) fn read(reader: &mut Reader<'_>) -> Result<Reports, Reports> {
+        let answer = read_number(reader, 1).unwrap_or_else(identity);
+        match read_number(reader, 1) {
+            Ok(settled) => Ok(Reports { answer, settled }),
+            Err(settled) => Err(Reports { answer, settled }),
+        }
     }
 
     // Compares both, under their names.
@@ -43,23 +47,24 @@ impl Reports {
 }
 
 impl Given {
-    pub(crate) fn read(reader: &mut Reader<'_>) -> Option<Given> {
-        let nbits = read_number(reader, 4)?;
-        let count = read_number(reader, 2)?;
-        Some(Given {
+    pub(crate) fn read(reader: &mut Reader<'_>) -> Given {
+        let nbits = read_number(reader, 4).unwrap_or_else(identity);
+        let count = read_number(reader, 2).unwrap_or_else(identity) as usize;
+        Given {
             nbits,
-            samples: read_numbers(reader, count as usize)?,
-        })
+            count,
+            samples: read_numbers(reader, count).unwrap_or_else(identity),
+        }
     }
 }
 
 // Reads a pitch record: whether it is present, its index and its active mark.
-pub(crate) fn read_pitch(reader: &mut Reader<'_>) -> Option<PitchRecord> {
-    let present = read_number(reader, 1)?;
-    let index = read_number(reader, 4)?;
-    let active = read_number(reader, 1)? != 0;
+pub(crate) fn read_pitch(reader: &mut Reader<'_>) -> PitchRecord {
+    let present = read_number(reader, 1).unwrap_or_else(identity);
+    let index = read_number(reader, 4).unwrap_or_else(identity);
+    let active = read_number(reader, 1).unwrap_or_else(identity) != 0;
     if present == 0 {
-        return Some(PitchRecord::Absent);
+        return PitchRecord::Absent;
     }
-    Some(PitchRecord::Present(Present { index, active }))
+    PitchRecord::Present(Present { index, active })
 }

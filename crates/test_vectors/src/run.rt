@@ -4,6 +4,7 @@ use crate::tally::{Kind, Tally};
 use arguments::inputs::Reader;
 use outcome::Outcome;
 use rates::answer::{Answer, number};
+use std::convert::identity;
 use vectors::part::Numbers;
 use vectors::read::{none, read_number, read_numbers};
 
@@ -47,26 +48,26 @@ pub trait End: Copy {
     fn take(&mut self, run: &mut Run<'_>, kind: u32) -> Result<(), Stop>;
 }
 
-// Reads a set: the counts of its tables, then the tables.
+// Reads a set: the counts of its tables, then the tables. It is whole where its tables and their last counts are.
 fn read_set(reader: &mut Reader<'_>, tables: usize) -> Option<Set> {
-    let mut counts = [0; 3];
+    let mut counts = [Ok(0); 3];
     for count in counts.iter_mut().take(tables) {
-        *count = read_number(reader, 2)? as usize;
+        *count = read_number(reader, 2);
     }
-    let mut set = [none(); 3];
-    for (table, count) in set.iter_mut().zip(counts) {
-        *table = read_numbers(reader, count)?;
-    }
-    Some(set)
+    let [first_count, second_count, third_count] = counts;
+    let first = read_numbers(reader, first_count.unwrap_or_else(identity) as usize);
+    let second = read_numbers(reader, second_count.unwrap_or_else(identity) as usize);
+    let third = read_numbers(reader, third_count.unwrap_or_else(identity) as usize);
+    second_count.ok()?;
+    third_count.ok()?;
+    Some([first.ok()?, second.ok()?, third.ok()?])
 }
 
 // Reads what a start's call has: the rate, the duration and the answer.
 fn read_start(reader: &mut Reader<'_>) -> Option<[u32; 3]> {
-    Some([
-        read_number(reader, 4)?,
-        read_number(reader, 4)?,
-        read_number(reader, 1)?,
-    ])
+    let rate = read_number(reader, 4).unwrap_or_else(identity);
+    let duration = read_number(reader, 4).unwrap_or_else(identity);
+    Some([rate, duration, read_number(reader, 1).ok()?])
 }
 
 impl Run<'_> {
@@ -82,7 +83,7 @@ impl Run<'_> {
 
     // Takes one record of the file.
     fn step<E: End>(&mut self, end: &mut E) -> Result<(), Stop> {
-        let kind = read_number(&mut self.reader, 1).ok_or(Stop::End)?;
+        let kind = read_number(&mut self.reader, 1).map_err(|_| Stop::End)?;
         match kind {
             SET => self.set = read_set(&mut self.reader, E::TABLES).ok_or(Stop::Set)?,
             END => self.tally.report.end(),

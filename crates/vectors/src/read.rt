@@ -1,4 +1,6 @@
-// Reading the parts of a record. Each answers nothing where a part was not there whole.
+// Reading the parts of a record. Where a part is not there whole, or too long, what came of it is the error: bytes that did
+// not come are 0, and of a part that is too long none is read. A record is read to its end in any case, and its last part
+// tells whether the input ended before it.
 ghost use Rattle.std.specs.Prelude.{◌≤◌, true, ◌≡◌, length};
 ghost use Rattle.vectors.specs.Parts.{first_of, no_floats, NumberRead, NumbersRead};
 
@@ -33,12 +35,16 @@ fn read_bytes<R: Read>(reader: &mut R, bytes: &mut [u8]) -> bool
 }
 
 // Reads a number of so many bytes, at most four.
-pub fn read_number<R: Read>(reader: &mut R, width: usize) -> Option<u32>
+pub fn read_number<R: Read>(reader: &mut R, width: usize) -> Result<u32, u32>
     ensures { NumberRead width result }
 {
     let mut bytes = [0u8; 4];
-    let is_whole = read_bytes(reader, bytes.get_mut(..width)?);
-    is_whole.then_some(u32::from_le_bytes(bytes))
+    let Some(part) = bytes.get_mut(..width) else {
+        return Err(0);
+    };
+    let is_whole = read_bytes(reader, part);
+    let number = u32::from_le_bytes(bytes);
+    if is_whole { Ok(number) } else { Err(number) }
 }
 
 // Stores the entries that bytes stand for.
@@ -60,18 +66,20 @@ pub fn none() -> Numbers<f32>
 }
 
 // Reads so many numbers, at most 1024.
-pub fn read_numbers<T: Entry, R: Read>(reader: &mut R, count: usize) -> Option<Numbers<T>>
+pub fn read_numbers<T: Entry, R: Read>(
+    reader: &mut R,
+    count: usize,
+) -> Result<Numbers<T>, Numbers<T>>
     ensures { NumbersRead T.ZERO T.entry_at count result }
 {
+    let mut values = [T::ZERO; 1024];
     if count > MOST {
-        return None;
+        return Err(Numbers { values, count: 0 });
     }
     let mut bytes = [0u8; 4096];
     let size = T::WIDTH * count;
-    if !read_bytes(reader, &mut bytes[..size]) {
-        return None;
-    }
-    let mut values = [T::ZERO; 1024];
+    let is_whole = read_bytes(reader, &mut bytes[..size]);
     put_entries(&bytes, &mut values[..count]);
-    Some(Numbers { values, count })
+    let numbers = Numbers { values, count };
+    if is_whole { Ok(numbers) } else { Err(numbers) }
 }

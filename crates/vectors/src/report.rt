@@ -29,7 +29,8 @@ impl Report {
 
     // Writes to standard output. Once that takes no more there is no more to compare.
     pub fn print<D: Display + Drop>(&mut self, text: D)
-        ensures { self.new.more ≡ cond (is_taken self.new.outcome.output) self.old.more false }
+        ensures more { self.new.more ≡ cond (is_taken self.new.outcome.output) self.old.more false }
+        ensures taken { is_taken self.new.outcome.output ≡ true → self.new.outcome ≡ self.old.outcome }
     {
         self.more &= outcome::print(&self.rt, &mut self.outcome, text);
     }
