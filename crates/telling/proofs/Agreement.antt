@@ -1,9 +1,9 @@
 -- THE TOLD PLAN. `frame_agrees`: the verdict on a frame, with any set and samples, is a refusal with another answer than 0, or accepts the plan that
--- is told.
+-- is told. `fitted_same`: where a refusal stays what it is, `judge_fitted` promises what is told.
 use Rattle.lag.specs.declared.rescale.Lag.{Lag}
 use Rattle.rates.specs.declared.answer.Refusal.{Refusal}
 use Rattle.std.proofs.Common.{Option, Some, None, Result, Ok, Err}
-use mathlib.Core.Path.{◌≡◌}
+use mathlib.Core.Path.{◌≡◌, refl}
 use mathlib.Core.Bool.{Bool, true, false}
 use mathlib.Core.List.{List}
 use lib.Dec.{leb}
@@ -18,7 +18,7 @@ use Rattle.judging.specs.Pitch.{lag_for}
 use Rattle.judging.specs.Judge.{unless, set_counts, set_finite, plan_of, lag_judged, judged_side, ranged, judged_frame}
 use Rattle.judging.specs.declared.plan.SideInfo.{SideInfo}
 use Rattle.judging.specs.declared.plan.Plan.{Plan}
-use Rattle.telling.specs.Told.{judged_fitted}
+use Rattle.telling.specs.Told.{judged_fitted, refused_as, fitted_judged}
 
 -- a verdict, beside the one that is told
 pub data Agree : Result Plan Refusal → Result Plan Refusal → Type 0 where
@@ -45,3 +45,11 @@ frame_agrees m numerators denominators side full samples (Ok c) =
     unless_agrees (set_counts c.fs.l_den numerators denominators) CoefficientCount
     (unless_agrees (set_finite numerators denominators) CoefficientNotFinite
     (unless_agrees (full c) SampleCount (side_agrees m c side (all_in_range samples))))
+
+pub fitted_same : (m : Marks) (side : SideInfo) (k : Result Lc3Config Refusal) → fitted_judged (λ a. a) m side k ≡ judged_fitted m side k
+fitted_same m side (Err refusal) = refl
+fitted_same m side (Ok c) = go _
+  where
+    go : (v : Result Plan Refusal) → refused_as (λ a. a) v ≡ v
+    go (Err refusal) = refl
+    go (Ok plan) = refl

@@ -1,6 +1,6 @@
 // Reading the parts of a record. Where a part is not there whole, or too long, what came of it is the error: bytes that did
-// not come are 0, and of a part that is too long none is read. A record is read to its end in any case, and its last part
-// tells whether the input ended before it.
+// not come are 0, and of a part that is too long none is read. A record is read to its end in any case, and its last parts
+// (of an encoder's frame the samples too) tell whether the input ended before them.
 ghost use Rattle.std.specs.Prelude.{◌≤◌, true, ◌≡◌, length};
 ghost use Rattle.vectors.specs.Parts.{first_of, no_floats, NumberRead, NumbersRead};
 
